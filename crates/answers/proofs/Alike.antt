@@ -25,6 +25,9 @@ go-on-decides u v a b x y r ea eb d =
 pub never-decides : {P : Type 0} → (P → ⊥) → Decides false P
 never-decides h = (λ e. absurd (false≢true e), λ p. absurd (h p))
 
+pub holds-decides : {P : Type 0} → P → Decides true P
+holds-decides p = (λ _. p, λ _. refl)
+
 -- An answer that was read at i is what the list says at i.
 pub told-read : (answers : List Answer) (i : ℕ) (a : Answer) → i < length answers → a ≡ getD answers i a → told-of a ≡ getD (told answers) i no-answer
 told-read answers i a h e = ap told-of e ∙ sym (getD-map told-of answers i a no-answer h)

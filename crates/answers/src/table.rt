@@ -16,7 +16,7 @@ pub struct Row(pub usize);
 #[derive(Clone, Copy, PartialEq, Eq, Debug)]
 pub struct Key(pub u32);
 
-// A table of so many rows for so many keys, 1 to 64; its cells are rows of 1 + keys numbers.
+// A table of so many rows, at most 1,048,576, for so many keys, 1 to 64; its cells are rows of 1 + keys numbers.
 #[derive(Drop)]
 pub struct Table {
     keys: usize,
@@ -25,6 +25,7 @@ pub struct Table {
     ghost some_keys: { 1 ≤ keys },
     ghost few_keys: { keys ≤ 64 },
     ghost some_rows: { 0 < rows },
+    ghost few_rows: { rows ≤ 1048576 },
     ghost long: { length (vec-items cells) ≡ rows * (keys + 1) },
     ghost inside: { (i x : ℕ) → i < rows → x < keys → next keys (vec-items cells) i x < rows },
 }

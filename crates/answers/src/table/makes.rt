@@ -11,10 +11,14 @@ use super::Table;
 use std::alloc::AllocError;
 use std::alloc::Global;
 
+// The most rows that a table may have.
+const MOST_ROWS: usize = 1048576;
+
 // Why rows make no table.
 #[derive(Drop)]
 pub enum TableFault {
     NoRows,
+    ManyRows(usize),
     NoKeys,
     ManyKeys(usize),
     Uneven(Row),
@@ -43,6 +47,9 @@ impl Table {
         let Some(first) = rows.first() else {
             return Err(TableFault::NoRows);
         };
+        if rows.len() > MOST_ROWS {
+            return Err(TableFault::ManyRows(rows.len()));
+        }
         let width = first.len();
         if width < 2 {
             return Err(TableFault::NoKeys);

@@ -12,6 +12,9 @@ use Rattle.answers.proofs.table.Table.from_rows.Needs as need
 pub returns-in-rest : need.returns-in-rest
 returns-in-rest c = no-lists (c .args .rows .now) (c .in-rest .ensures tt .item .3)
 
+pub returns-then-rows-gt-MOST-ROWS : need.returns-then-rows-gt-MOST-ROWS
+returns-then-rows-gt-MOST-ROWS c = (c .if-rows-gt-MOST-ROWS .taken, sym (length-lists (c .args .rows .now)))
+
 pub returns-then-width-lt2 : need.returns-then-width-lt2
 returns-then-width-lt2 c =
     let rows = c .args .rows .now in
@@ -67,7 +70,7 @@ ghost-result c =
     let long = gathered-long (lists rows) (c .len-width .result) (c .loop-i .i) cells (c .loop-i .inv) all (c .if-width-lt2 .left) in
     let inside = gathered-inside (lists rows) (c .len-width .result) (c .loop-i .i) cells (c .loop-i .inv) all (c .if-width-lt2 .left) in
     let n = length-lists rows in
-    (omega arith, (omega arith, (omega (arith, c .in-Some .ensures tt .item .3 .0), (rw n at long, (rw n at inside, tt)))))
+    (omega arith, (omega arith, (omega (arith, c .in-Some .ensures tt .item .3 .0), (omega arith, (rw n at long, (rw n at inside, tt))))))
 
 pub returns : need.returns
 returns c =

@@ -1,0 +1,10 @@
+// Whether a table is borne out by a log of answers, and what is missing.
+mod apart;
+mod checks;
+mod edges;
+pub mod listing;
+mod looks;
+mod order;
+pub mod report;
+pub mod verdict;
+pub mod words;

@@ -8,3 +8,4 @@ pub mod Listed
 pub mod Places
 pub mod Judged
 pub mod Reported
+pub mod Chosen

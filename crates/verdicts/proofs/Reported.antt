@@ -53,7 +53,7 @@ module _ (t : Table) (ws : List Word) (answers : List Told) (most : ℕ) (some :
         }
 
     pub open-judged : (p : ℕ) → Head (vec-items (r .edges .first)) (Some p)
-      → Judged t ws answers (Open (record { 0 = (p / rows-of t) / keys-of t }) (record { 0 = (p / rows-of t) % keys-of t }) (record { 0 = p % rows-of t }))
+        → Judged t ws answers (Open (record { 0 = (p / rows-of t) / keys-of t }) (record { 0 = (p / rows-of t) % keys-of t }) (record { 0 = p % rows-of t }))
     open-judged p e =
         let found = lists-head (Edge-apart (keys-of t) (rows-of t) (cells-of t) ws answers) most ((rows-of t * keys-of t) * rows-of t) (r .edges) p some (h .edges) e in
         let edge = row-below p (rows-of t) (rows-of t * keys-of t) (t .«some_rows») (found .0) in

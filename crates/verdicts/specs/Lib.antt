@@ -3,3 +3,5 @@ pub mod Orders
 pub mod Listings
 pub mod Faults
 pub mod Verdicts
+pub mod Greedy
+pub mod Choices

@@ -1,7 +1,9 @@
 // Whether a table is borne out by a log of answers, and what is missing.
 mod apart;
 mod checks;
+pub mod choice;
 mod edges;
+pub mod greedy;
 pub mod listing;
 mod looks;
 mod order;

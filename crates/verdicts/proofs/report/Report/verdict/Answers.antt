@@ -26,8 +26,8 @@ returns-in-Some-head-4 c = λ ws answers most some h.
     let t = c .args .table .now in
     let p = c .in-Some-head-4 .p in
     subst (λ n. Judged t ws answers (Open (record { 0 = (p / n) / c .keys-keys .result }) (record { 0 = (p / n) % c .keys-keys .result }) (record { 0 = p % n }))) (sym (c .rows-rows .ensures))
-      (subst (λ k. Judged t ws answers (Open (record { 0 = (p / rows-of t) / k }) (record { 0 = (p / rows-of t) % k }) (record { 0 = p % rows-of t }))) (sym (c .keys-keys .ensures))
-        (open-judged t ws answers most some (c .args .self .now) h (c .in-rest .ensures tt) p (c .in-Some-head-4 .ensures tt)))
+    (subst (λ k. Judged t ws answers (Open (record { 0 = (p / rows-of t) / k }) (record { 0 = (p / rows-of t) % k }) (record { 0 = p % rows-of t }))) (sym (c .keys-keys .ensures))
+    (open-judged t ws answers most some (c .args .self .now) h (c .in-rest .ensures tt) p (c .in-Some-head-4 .ensures tt)))
 
 pub returns : need.returns
 returns c = λ ws answers most some h.

@@ -3,6 +3,7 @@ pub mod Search
 pub mod Pigeonhole
 pub mod Walks
 pub mod Alphabet
+pub mod Shortlex
 pub mod Apart
 pub mod Leads
 pub mod Padding

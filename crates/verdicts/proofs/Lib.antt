@@ -9,3 +9,4 @@ pub mod Places
 pub mod Judged
 pub mod Reported
 pub mod Chosen
+pub mod Followed

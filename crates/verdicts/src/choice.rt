@@ -1,14 +1,15 @@
 // A told word for each row, where nobody named one.
 ghost use mathlib.Core.Path.{_≡_};
-ghost use Prim.Native.Nat.{ℕ, _<_, _≤_};
+ghost use Prim.Native.Nat.{ℕ, _+_, _<_};
 ghost use lib.ListN.{length, getD};
 ghost use Rattle.std.specs.Of.Vec.{vec-items};
 ghost use Rattle.std.specs.Orderings.{Decides};
 ghost use Rattle.std.specs.Vec.{made};
+ghost use Rattle.machines.specs.Words.{Less};
 ghost use Rattle.answers.specs.Logs.{told};
 ghost use Rattle.answers.specs.Values.{keys-of, rows-of, cells-of};
-ghost use Rattle.verdicts.specs.Choices.{Leads-here, One-of, Placed-in, Word-for, Words-for};
-ghost use Rattle.verdicts.specs.Orders.{Sorted, Indexed};
+ghost use Rattle.verdicts.specs.Choices.{Leads-here, Followers, Better, Better-of, Candidate-for, Placed-in, Word-for, Words-for};
+ghost use Rattle.verdicts.specs.Orders.{Sorted, Indexed, word-at};
 use crate::order;
 use answers::log::Answer;
 use answers::table::Table;
@@ -36,6 +37,7 @@ fn leads_here(table: &Table, word: &[u32], row: usize) -> bool
 fn followers(answers: &[Answer], order: &[usize], place: usize) -> usize
     requires sorted { ⌜ Sorted (told (now answers)) (now order) ⌝ }
     requires place { ⌜ place < length (now order) ⌝ }
+    ensures { λ r. ⌜ Followers (told (now (answers .entry))) (now (order .entry)) place r ⌝ }
 {
     let word = order::word_in(answers, order, place);
     for p in place..order.len() {
@@ -46,18 +48,32 @@ fn followers(answers: &[Answer], order: &[usize], place: usize) -> usize
     order.len() - place
 }
 
-// Whether the first of two candidates has more followers, or as many and the word that is first, shorter ones first.
+// Whether the word at one place of the order is shorter than that at another, or as long and before it.
+fn shorter_first(answers: &[Answer], order: &[usize], one: usize, other: usize) -> bool
+    requires sorted { ⌜ Sorted (told (now answers)) (now order) ⌝ }
+    requires one { ⌜ one < length (now order) ⌝ }
+    requires other { ⌜ other < length (now order) ⌝ }
+    ensures { λ r. ⌜ Decides r (Less (word-at (told (now (answers .entry))) (getD (now (order .entry)) one 0)) (word-at (told (now (answers .entry))) (getD (now (order .entry)) other 0))) ⌝ }
+{
+    let u = order::word_in(answers, order, one).len();
+    let v = order::word_in(answers, order, other).len();
+    if u != v {
+        return u < v;
+    }
+    one < other
+}
+
+// Whether the first of two candidates has more followers, or as many and the word that is first.
 fn better(answers: &[Answer], order: &[usize], one: Candidate, other: Candidate) -> bool
     requires sorted { ⌜ Sorted (told (now answers)) (now order) ⌝ }
     requires one { ⌜ one .place < length (now order) ⌝ }
     requires other { ⌜ other .place < length (now order) ⌝ }
+    ensures { λ r. ⌜ Decides r (Better (told (now (answers .entry))) (now (order .entry)) (one .place) (one .followers) (other .place) (other .followers)) ⌝ }
 {
     if one.followers != other.followers {
         return one.followers > other.followers;
     }
-    let u = order::word_in(answers, order, one.place).len();
-    let v = order::word_in(answers, order, other.place).len();
-    u < v || (u == v && one.place < other.place)
+    shorter_first(answers, order, one.place, other.place)
 }
 
 // The better of two candidates, if there is an old one.
@@ -70,7 +86,7 @@ fn better_of(
     requires sorted { ⌜ Sorted (told (now answers)) (now order) ⌝ }
     requires old { ⌜ Placed-in (now order) old ⌝ }
     requires new { ⌜ new .place < length (now order) ⌝ }
-    ensures { λ r. ⌜ One-of old new r ⌝ }
+    ensures { λ r. ⌜ Better-of (told (now (answers .entry))) (now (order .entry)) old new r ⌝ }
 {
     match old {
         Some(best) => {
@@ -84,6 +100,27 @@ fn better_of(
     }
 }
 
+// The best candidate for the row so far, with one place of the order more.
+fn consider(
+    table: &Table,
+    answers: &[Answer],
+    order: &[usize],
+    row: usize,
+    best: Option<Candidate>,
+    place: usize,
+) -> Option<Candidate>
+    requires sorted { ⌜ Sorted (told (now answers)) (now order) ⌝ }
+    requires place { ⌜ place < length (now order) ⌝ }
+    requires sofar { ⌜ Candidate-for (keys-of (now table)) (cells-of (now table)) (told (now answers)) (now order) row place best ⌝ }
+    ensures { λ r. ⌜ Candidate-for (keys-of (now (table .entry))) (cells-of (now (table .entry))) (told (now (answers .entry))) (now (order .entry)) row (place + 1) r ⌝ }
+{
+    if !leads_here(table, order::word_in(answers, order, place), row) {
+        return best;
+    }
+    let followers = followers(answers, order, place);
+    Some(better_of(answers, order, best, Candidate { place, followers }))
+}
+
 // The told word for the row: of those that lead to it the one that the most told words begin with, and of these the first.
 fn best_word(table: &Table, answers: &[Answer], order: &[usize], row: usize) -> Option<usize>
     requires { ⌜ Indexed (told (now answers)) (now order) ⌝ }
@@ -91,13 +128,7 @@ fn best_word(table: &Table, answers: &[Answer], order: &[usize], row: usize) -> 
 {
     let mut best = None;
     for place in 0..order.len() {
-        if leads_here(table, order::word_in(answers, order, place), row) {
-            let new = Candidate {
-                place,
-                followers: followers(answers, order, place),
-            };
-            best = Some(better_of(answers, order, best, new));
-        }
+        best = consider(table, answers, order, row, best, place);
     }
     match best {
         Some(candidate) => Some(order[candidate.place]),

@@ -1,0 +1,2 @@
+-- Words given by their parts.
+pub mod Spelt

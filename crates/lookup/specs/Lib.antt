@@ -1,0 +1,2 @@
+-- Words of a store, and answers to them.
+pub mod Named

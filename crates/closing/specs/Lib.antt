@@ -1,0 +1,2 @@
+-- What is missing of an observation table.
+pub mod Missing

@@ -11,9 +11,11 @@ use Rattle.model.specs.Pages.{Page}
 use Rattle.model.specs.Models.{observed-in}
 use Rattle.store.specs.Decoding.{model-of}
 
+-- The observations that a memory holds.
 abbrev pub observed-at : List ℕ → Dims → Observations
 observed-at w d = observed-in (model-of w d)
 
+-- The page that a memory holds.
 abbrev pub page-at : List ℕ → Dims → Page
 page-at w d = model-of w d .page
 

@@ -18,53 +18,67 @@ use Rattle.model.specs.Models.{Model}
 abbrev pub store-mark : ℕ
 store-mark = 1280263758
 
--- The words of the header: the mark, the keys, the most states; how many rows, suffixes and answers there are; the letters of the log, in two words;
--- answers got in searches, refutations, rows of the last table shown; the phase and up to three numbers of it; the two ends of a search, in two words each.
+-- Where the header has the mark.
 abbrev pub mark-word : ℕ
 mark-word = 0
 
+-- Where it has the number of keys.
 abbrev pub keys-word : ℕ
 keys-word = 1
 
+-- Where it has the most states.
 abbrev pub most-word : ℕ
 most-word = 2
 
+-- Where it has the number of rows.
 abbrev pub rows-word : ℕ
 rows-word = 3
 
+-- Where it has the number of suffixes.
 abbrev pub suffixes-word : ℕ
 suffixes-word = 4
 
+-- Where it has the number of answers.
 abbrev pub answers-word : ℕ
 answers-word = 5
 
+-- Where it has the number of the log's letters, in two words.
 abbrev pub letters-word : ℕ
 letters-word = 6
 
+-- Where it has the number of answers got in searches.
 abbrev pub bisected-word : ℕ
 bisected-word = 8
 
+-- Where it has the number of refutations.
 abbrev pub refutes-word : ℕ
 refutes-word = 9
 
+-- Where it has the rows of the last table shown.
 abbrev pub last-word : ℕ
 last-word = 10
 
+-- Where it has the number of the phase.
 abbrev pub phase-word : ℕ
 phase-word = 11
 
+-- Where it has the first number of the phase.
 abbrev pub first-word : ℕ
 first-word = 12
 
+-- Where it has the second number of the phase.
 abbrev pub second-word : ℕ
 second-word = 13
 
+-- Where it has the third number of the phase.
 abbrev pub third-word : ℕ
 third-word = 14
 
+-- Where it has the lower end of a search, in two words.
 abbrev pub low-word : ℕ
 low-word = 16
 
+-- Where it has the upper end of a search, in two words.
 abbrev pub high-word : ℕ
 high-word = 18
 

@@ -75,6 +75,7 @@ pub record Both-first (answers : List Told) (u v : Word) (e : Apart) : Type 0 wh
   pub left-first : First-at answers (e .left)
   pub right-first : First-at answers (e .right)
 
+-- Two first answers that tell the words apart; none where nothing does.
 abbrev pub Parts : List Told → Word → Word → Option Apart → Type 0
 Parts answers u v None = Told-apart (First-said answers) u v → ⊥
 Parts answers u v (Some e) = Both-first answers u v e

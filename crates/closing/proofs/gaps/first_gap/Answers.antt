@@ -20,6 +20,8 @@ returns-then-cell-eq0 c few =
       edge-in = inside (c .keys .result) (dims (c .args .shape) .keys) (c .min-rows .result) _ (c .loop-u .u) (c .keys .ensures) (omega (arith, few, c .min-rows .ensures, c .rows .ensures .count, c .most .ensures)) (omega arith);
       suffix-in = omega (arith, c .suffixes-suffixes .ensures .count, suffixes-long (model-of (c .args .store .now) (dims (c .args .shape)) .page));
       unknown = sym (c .cell .ensures) ∙ c .if-cell-eq0 .taken;
+      before = c .loop-suffix .inv .0;
+      earlier = c .loop-suffix .inv .1;
     }
 
 pub loop-u-again : need.loop-u-again

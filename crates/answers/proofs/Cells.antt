@@ -1,7 +1,7 @@
 -- Where a table's numbers stand, and a walk along a word one key at a time.
-use Rattle.std.proofs.Common.{◌≡◌, ℕ, ◌+◌, ◌*◌, ◌<◌, ◌≤◌, List, [], ◌∷◌, length, get_or, drop, vec_items, vec_len, sym, refl, ap, ◌∙◌, subst, arith}
+use Rattle.std.proofs.Common.{◌≡◌, ℕ, ◌+◌, ◌*◌, ◌<◌, ◌≤◌, ◌∷◌, length, get_or, drop, vec_len, sym, refl, ap, ◌∙◌, subst, arith}
 use Rattle.std.proofs.lemmas.Nat.{mul-add-lt}
-use Rattle.std.proofs.lemmas.List.{get_or_read_under, at_drop_more, at_drop_all, drop_more}
+use Rattle.std.proofs.lemmas.List.{get_or_read_under, at_drop_all, drop_more}
 use Rattle.machines.specs.Words.{Word, Keys}
 use Rattle.machines.specs.Tables.{Sound, next, walk}
 use Rattle.answers.specs.declared.table.Table.{Table}

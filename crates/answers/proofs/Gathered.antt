@@ -1,5 +1,5 @@
 -- Rows of numbers, put one after the other.
-use Rattle.std.proofs.Common.{◌≡◌, ℕ, zero, suc, ◌+◌, ◌-◌, ◌*◌, ◌<◌, ◌≤◌, List, [], ◌∷◌, ◌++◌, map, length, get_or, take, vec_items, vec_len, Vec, sym, refl, ap, ◌∙◌, subst, append-nil, suc-mul, zero-mul, arith, length-append, below_more}
+use Rattle.std.proofs.Common.{◌≡◌, ℕ, zero, suc, ◌+◌, ◌-◌, ◌*◌, ◌<◌, ◌≤◌, List, [], ◌∷◌, ◌++◌, length, get_or, take, vec_items, vec_len, Vec, sym, ap, ◌∙◌, subst, suc-mul, zero-mul, arith, length-append, below_more}
 use Rattle.std.proofs.lemmas.List.{get_or_append_left, get_or-append-add, get_or-map, length-map, take_more, take_all, flat_map_more, nil_from_length}
 use Rattle.std.specs.List.{flat_map}
 use Rattle.machines.specs.Tables.{next}

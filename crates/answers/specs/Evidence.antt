@@ -1,5 +1,5 @@
 -- The two answers by which two words are told apart.
-use Rattle.std.specs.Prelude.{◌≡◌, ℕ, ◌<◌, List, length, slice_index_or}
+use Rattle.std.specs.Prelude.{◌≡◌, ◌<◌, List, length, slice_index_or}
 use Rattle.machines.specs.Words.{Word}
 use Rattle.machines.specs.Answers.{Told}
 use Rattle.answers.specs.declared.apart.Apart.{Apart}

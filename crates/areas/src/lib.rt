@@ -1,4 +1,6 @@
 // Memory as areas of words: reads and writes that are safe on any memory, whatever the numbers mean.
+#![tactic(auto)]
+
 pub mod area;
 pub mod bulk;
 pub mod places;

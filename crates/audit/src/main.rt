@@ -1,4 +1,6 @@
 // Says whether a table is borne out by the presses that were made, and if not, what is missing.
+#![tactic(auto)]
+
 mod faults;
 mod files;
 mod problem;
@@ -6,6 +8,7 @@ mod show;
 
 use crate::problem::Problem;
 use std::env;
+use std::process::ExitCode;
 
 const HELP: &str = "audit TABLE ANSWERS
 
@@ -49,12 +52,12 @@ fn run(rt: &HostRuntime) -> Result<(), Problem> {
     show::all(rt, &tables, &told)
 }
 
-fn main(rt: HostRuntime) -> Result<(), Problem> {
+fn main(rt: HostRuntime) -> Result<ExitCode, Problem> {
     match run(&rt) {
-        Ok(()) => Ok(()),
+        Ok(()) => Ok(ExitCode::SUCCESS),
         Err(problem) => {
             eprintln!(rt; "audit: {problem}")?;
-            Err(problem)
+            Ok(ExitCode::FAILURE)
         }
     }
 }

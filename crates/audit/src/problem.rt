@@ -3,7 +3,7 @@ use std::alloc::{AllocError, AllocFailed};
 use std::{fmt, io};
 use verdicts::report::AuditFault;
 
-#[derive(Drop)]
+#[derive(Debug, Drop)]
 pub enum Problem {
     Usage,
     // A file, a line in it and what is wrong with it.

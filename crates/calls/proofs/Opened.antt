@@ -1,5 +1,5 @@
 -- What a memory is read as, by the shape that it says.
-use Rattle.std.proofs.Common.{◌≡◌, ℕ, List, sym, refl, ap, ◌∙◌, subst, arith}
+use Rattle.std.proofs.Common.{◌≡◌, ℕ, List, refl, subst, arith}
 use mathlib.Core.Option.{Option, some, none}
 use Rattle.areas.specs.declared.shape.Shape.{Shape}
 use Rattle.areas.specs.Layout.{Dims}

@@ -1,12 +1,10 @@
 -- What comes of a refutation.
-use Rattle.std.proofs.Common.{◌≡◌, ℕ, ◌+◌, ◌<◌, ◌≤◌, Bool, true, false, List, length, sym, refl, ap, ◌∙◌, subst, inl, inr}
-use mathlib.Core.Option.{Option, some, none}
+use Rattle.std.proofs.Common.{◌≡◌, ℕ, ◌+◌, ◌<◌, ◌≤◌, List, length, sym, refl, ap, ◌∙◌, inl, inr}
 use Rattle.areas.specs.declared.shape.Shape.{Shape}
-use Rattle.areas.specs.Layout.{Dims}
 use Rattle.areas.specs.Shapes.{dims}
 use Rattle.machines.specs.Words.{Word, Keys}
 use Rattle.machines.specs.Tables.{shows}
-use Rattle.model.specs.States.{State, store_words, refuted_by}
+use Rattle.model.specs.States.{store_words, refuted_by}
 use Rattle.model.specs.Learners.{shows_table, waits_in}
 use Rattle.model.specs.Models.{view_model}
 use Rattle.promises.specs.declared.Given.TheVariants.{Taken, NotAsked, NoRefute, Full, Unstored}

@@ -1,6 +1,6 @@
 -- What a step says, by what is settled and what is wanted.
-use Rattle.std.proofs.Common.{◌≡◌, ℕ, ◌<◌, ◌≤◌, ◌⊎◌, List, [], length, sym, refl, ap, ◌∙◌, subst, inl, inr, ⊎_elim, arith}
-use mathlib.Core.Option.{Option, some, none}
+use Rattle.std.proofs.Common.{◌≡◌, ℕ, ◌<◌, ◌≤◌, ◌⊎◌, List, [], length, sym, refl, ap, subst, inl, inr, ⊎_elim, arith}
+use mathlib.Core.Option.{some, none}
 use Rattle.areas.specs.declared.shape.Shape.{Shape}
 use Rattle.areas.specs.Layout.{Dims}
 use Rattle.areas.specs.Shapes.{dims}

@@ -1,10 +1,9 @@
 -- What comes of an answer.
-use Rattle.std.proofs.Common.{◌≡◌, ℕ, List, sym, refl, ap, ◌∙◌, subst, arith}
+use Rattle.std.proofs.Common.{◌≡◌, ℕ, List, refl, ap, ◌∙◌, arith}
 use Rattle.areas.specs.declared.shape.Shape.{Shape}
-use Rattle.areas.specs.Layout.{Dims}
 use Rattle.areas.specs.Shapes.{dims}
 use Rattle.model.specs.Learners.{Bisection, asks_cell, asks_middle, waits_in}
-use Rattle.model.specs.Models.{Model, view_model, model_filling, heard_cell, model_hear_middle}
+use Rattle.model.specs.Models.{model_filling, heard_cell, model_hear_middle}
 use Rattle.model.proofs.Paging.{model_hears_cell, model_hears_middle}
 use Rattle.promises.specs.declared.Given.TheVariants.{Taken, NotAsked, Unstored}
 use Rattle.promises.specs.Promises.{ToldSays}

@@ -1,4 +1,6 @@
 // The calls of the learner: what is wanted next, an answer, a refutation.
+#![tactic(auto)]
+
 mod answering;
 mod refutation;
 mod runs;

@@ -1,15 +1,14 @@
 -- An edge that differs from all rows becomes a row, or shows that the box is larger.
-use Rattle.std.proofs.Common.{◌≡◌, ℕ, suc, ◌<◌, ◌≤◌, List, [], ◌∷◌, length, sym, refl, ap, ◌∙◌, subst, arith}
+use Rattle.std.proofs.Common.{◌≡◌, ℕ, ◌<◌, ◌≤◌, List, [], ◌∷◌, refl, ap, ◌∙◌, subst, arith}
 use Rattle.std.proofs.lemmas.List.{length-append}
 use Rattle.areas.specs.Layout.{Dims}
 use Rattle.model.specs.Observations.{rows, edge_word}
-use Rattle.model.specs.Learners.{Phase, filling, larger}
-use Rattle.model.specs.Pages.{Page, add_row, observations_of}
+use Rattle.model.specs.Learners.{larger}
+use Rattle.model.specs.Pages.{add_row}
 use Rattle.model.specs.Models.{Model, ModelAs, view_model, observed_in, model_in, model_filling}
 use Rattle.model.proofs.Paging.{model_adds_row, model_too_many}
 use Rattle.store.specs.Decoding.{model_of}
 use Rattle.moves.specs.Additions.{RowAdded}
-use Rattle.moves.specs.Changes.{on_page}
 use Rattle.moves.specs.Holding.{Grown, Settles, too_many}
 use Rattle.moves.specs.Making.{Makes, ChangesBy}
 use Rattle.moves.specs.Observed.{observed_at, page_at}

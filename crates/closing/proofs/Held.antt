@@ -1,17 +1,16 @@
 -- What a memory that holds a valid learner gives for reading its cells.
-use Rattle.std.proofs.Common.{◌≡◌, ℕ, suc, ◌+◌, ◌*◌, ◌/◌, ◌%◌, ◌<◌, ◌≤◌, min, List, length, get_or, sym, refl, ap, ◌∙◌, subst, ⊎_elim, mul-le-mul_right, div-add-mod', arith}
+use Rattle.std.proofs.Common.{◌≡◌, ℕ, suc, ◌+◌, ◌*◌, ◌/◌, ◌%◌, ◌<◌, ◌≤◌, min, List, length, get_or, subst, ⊎_elim, mul-le-mul_right, div-add-mod', arith}
 use Rattle.std.proofs.lemmas.Nat.{div_below, mod_below}
 use Rattle.std.proofs.lemmas.List.{get_or_past}
 use Rattle.std.proofs.lemmas.Bool.{cases_lt}
 use Rattle.areas.specs.Layout.{Dims, Limits}
-use Rattle.model.specs.Observations.{rows, edges_used, edge_of, cell_at, seen, Full, Differ}
-use Rattle.model.specs.Models.{observed_in}
+use Rattle.model.specs.Observations.{rows, edges_used, edge_of, Full, Differ}
 use Rattle.store.specs.Decoding.{model_of}
 use Rattle.moves.specs.Holding.{Holds}
 use Rattle.moves.specs.Observed.{observed_at, page_at}
 use Rattle.moves.proofs.Holding.{as_dims}
 use Rattle.moves.proofs.Standing.{cell_stands}
-use Rattle.closing.specs.Alike.{CellsNamed, DifferAt}
+use Rattle.closing.specs.Missing.{CellsNamed, DifferAt}
 
 -- The cells are as many as edges and suffixes allow.
 cells_long : (w : List ℕ) (d : Dims) → Holds w d → length (observed_at w d).cells ≡ suc (d.most * d.keys) * d.most

@@ -1,14 +1,13 @@
 -- Successors that are written one after the other.
-use Rattle.std.proofs.Common.{◌≡◌, ℕ, suc, ◌+◌, ◌*◌, ◌<◌, ◌≤◌, List, length, get_or, set, Some, None, sym, refl, ap, ◌∙◌, subst, ⊎_elim, mul-le-mul_right, arith}
+use Rattle.std.proofs.Common.{◌≡◌, ℕ, suc, ◌+◌, ◌*◌, ◌<◌, List, length, get_or, set, Some, None, sym, refl, ap, ◌∙◌, subst, ⊎_elim, mul-le-mul_right, arith}
 use Rattle.std.proofs.lemmas.List.{get_or-set_same, get_or-set_other}
 use Rattle.std.proofs.lemmas.Bool.{cases_order}
 use Rattle.areas.specs.declared.area.Area.TheVariants.{Successors}
-use Rattle.areas.specs.Layout.{Dims, size_of, area_of, Limits}
+use Rattle.areas.specs.Layout.{Dims, size_of, Limits}
 use Rattle.areas.proofs.Inside.{length-area}
 use Rattle.model.specs.Observations.{Observations, rows, suffixes_used, edges_used, edge_of, seen, Full, LeadsToRow}
 use Rattle.model.specs.Moves.{OtherThanRows}
-use Rattle.model.specs.Models.{Model, ModelAs, view_model, observed_in, model_leading}
-use Rattle.model.specs.Learners.{filling}
+use Rattle.model.specs.Models.{Model, view_model, observed_in, model_leading}
 use Rattle.model.proofs.Paging.{model_sets_successors}
 use Rattle.store.specs.Decoding.{model_of}
 use Rattle.moves.specs.Changes.{leading_by}
@@ -18,7 +17,7 @@ use Rattle.moves.specs.Observed.{observed_at}
 use Rattle.moves.proofs.Standing.{makes_by_then}
 use Rattle.moves.proofs.Holding.{turned_by, turned_holds}
 use Rattle.moves.specs.declared.numbers.Row.{Row}
-use Rattle.closing.specs.Alike.{Likeness}
+use Rattle.closing.specs.Missing.{Likeness}
 use Rattle.closing.specs.Leading.{Led, FullTable, Stray}
 use Rattle.closing.proofs.Held.{holds_cells_named, edge_of_row, full_differ}
 

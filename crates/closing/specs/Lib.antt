@@ -1,3 +1,3 @@
--- Which edges are like which rows, and where they lead.
-pub mod Alike
+-- What is missing of an observation table, which edges are like which rows, and where they lead.
+pub mod Missing
 pub mod Leading

@@ -2,7 +2,7 @@
 ghost use Rattle.std.specs.Prelude.{◌≡◌, Decides};
 ghost use Rattle.areas.specs.Shapes.{dims};
 ghost use Rattle.moves.specs.Observed.{seen_value};
-ghost use Rattle.closing.specs.Alike.{Difference, Likeness};
+ghost use Rattle.closing.specs.Missing.{Difference, Likeness};
 
 use areas::shape::Shape;
 use moves::cells::seen;

@@ -1,5 +1,5 @@
-// A lamp that key 1 switches: which edge is like which row.
-use crate::{lead_edges, row_like};
+// A lamp that key 1 switches: what is missing, and which edge is like which row.
+use crate::{first_gap, lead_edges, row_like};
 use areas::records::Record;
 use areas::shape::Shape;
 use moves::answers::add_entry;
@@ -30,10 +30,29 @@ fn lamp(rt: HostRuntime) -> Result<(), Fail> {
         return Err(Fail::new("no store"));
     };
     tell(&mut memory, shape, Edge(0), 0, 0);
+    let Some(gap) = first_gap(&memory, shape) else {
+        return Err(Fail::new("full"));
+    };
+    assert_eq!(rt; (gap.edge.0, gap.suffix), (1, 0));
     tell(&mut memory, shape, Edge(1), 1, 0);
     tell(&mut memory, shape, Edge(2), 2, 9);
+    assert!(rt; first_gap(&memory, shape).is_none());
     assert!(rt; row_like(&memory, shape, Edge(1)).is_some());
     assert!(rt; row_like(&memory, shape, Edge(2)).is_none());
+    Ok(())
+}
+
+// The edge of key 1 is like no row.
+#[test]
+fn edge_like_none(rt: HostRuntime) -> Result<(), Fail> {
+    let mut memory = [0; 8000];
+    begin(2, 3, 10, &mut memory);
+    let Some(shape) = read_shape(&memory) else {
+        return Err(Fail::new("no store"));
+    };
+    tell(&mut memory, shape, Edge(0), 0, 0);
+    tell(&mut memory, shape, Edge(1), 1, 0);
+    tell(&mut memory, shape, Edge(2), 2, 9);
     match lead_edges(&mut memory, shape) {
         Some(edge) => {
             assert_eq!(rt; edge.0, 2);

@@ -1,5 +1,5 @@
 -- How far a search through pairs of rows has come, told by the words that lead to the pairs.
-use Rattle.std.specs.Prelude.{◌≡◌, ℕ, ◌+◌, ◌*◌, ◌<◌, Bool, true, false, ◌⊎◌, List, [], ◌∷◌, ◌++◌, length, get_or, set, vec_items, ◌≢◌, slice_index_or, slice_set}
+use Rattle.std.specs.Prelude.{◌≡◌, ℕ, ◌+◌, ◌*◌, ◌<◌, Bool, true, false, ◌⊎◌, List, [], ◌∷◌, ◌++◌, length, get_or, vec_items, ◌≢◌, slice_index_or, slice_set}
 use Rattle.machines.specs.Words.{Word, Keys, Less}
 use Rattle.machines.specs.Tables.{walk, shows}
 use Rattle.answers.specs.declared.table.Table.{Table}

@@ -1,4 +1,6 @@
 // The first word after which two tables show different things, or that there is none.
+#![tactic(auto)]
+
 pub mod first;
 mod pairs;
 mod search;

@@ -1,10 +1,10 @@
 -- The answer to a cell's word is kept: an entry, a cell, a phase.
 use Rattle.std.proofs.Common.{◌≡◌, ℕ, ◌^◌, ◌<◌, List, length, ap, ◌∙◌, subst, arith}
 use Rattle.areas.specs.declared.records.Record.{Record}
-use Rattle.areas.specs.Layout.{Dims, answer_count, Limits}
-use Rattle.model.specs.Learners.{Phase, filling, asks_cell, waits_in, InPhase}
-use Rattle.model.specs.Pages.{Entry, Page, add_entry, set_cell, cell_entry}
-use Rattle.model.specs.Models.{Model, observed_in, model_in, model_filling, heard_cell}
+use Rattle.areas.specs.Layout.{Dims, Limits}
+use Rattle.model.specs.Learners.{filling, asks_cell, waits_in, InPhase}
+use Rattle.model.specs.Pages.{Entry, add_entry, set_cell, cell_entry}
+use Rattle.model.specs.Models.{observed_in, model_in, model_filling, heard_cell}
 use Rattle.model.proofs.Spans.{suffixes_long}
 use Rattle.store.specs.Decoding.{entry_of, model_of}
 use Rattle.moves.specs.Additions.{EntryAdded, CellSet}

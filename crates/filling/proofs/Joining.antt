@@ -1,10 +1,10 @@
 -- Turns in which cells are filled, one after another.
-use Rattle.std.proofs.Common.{◌≡◌, ℕ, suc, ◌+◌, ◌*◌, ◌<◌, ◌≤◌, List, sym, refl, ap, ◌∙◌, subst, arith, below_more}
+use Rattle.std.proofs.Common.{ℕ, suc, ◌+◌, ◌*◌, ◌<◌, List, sym, refl, ◌∙◌, subst, arith, below_more}
 use Rattle.areas.specs.Layout.{Dims}
-use Rattle.model.specs.Observations.{rows, suffixes_used, edges_used, seen, Full}
-use Rattle.moves.specs.Holding.{Settles, Turned}
+use Rattle.model.specs.Observations.{suffixes_used, edges_used, seen}
+use Rattle.moves.specs.Holding.{Turned}
 use Rattle.moves.specs.Observed.{observed_at}
-use Rattle.moves.proofs.Holding.{turned_none, turned_then, turned_holds, settles_after}
+use Rattle.moves.proofs.Holding.{turned_none, turned_then, turned_holds}
 use Rattle.filling.specs.Filled.{Filling, FillsCells, CellFilled, EdgeFilled}
 
 pub fills_none : (w : List ℕ) (d : Dims) → Filling w d → FillsCells w w d

@@ -1,22 +1,20 @@
 -- A cell whose word was told of is filled, and one whose word was not is asked about.
-use Rattle.std.proofs.Common.{◌≡◌, ℕ, zero, suc, ◌+◌, ◌*◌, ◌/◌, ◌^◌, ◌<◌, ◌≤◌, List, [], ◌++◌, length, get_or, set, Some, None, sym, refl, ap, ◌∙◌, subst, inl, inr, ⊎_elim, arith}
+use Rattle.std.proofs.Common.{◌≡◌, ℕ, zero, suc, ◌+◌, ◌*◌, ◌^◌, ◌<◌, ◌≤◌, List, ◌++◌, length, get_or, set, Some, None, sym, ap, ◌∙◌, subst, arith}
 use native.Mathlib.Decide.{ℕ_discrete}
 use Rattle.std.proofs.lemmas.Nat.{div_below}
 use Rattle.std.proofs.lemmas.List.{get_or-set_same, get_or-set_other}
 use Rattle.areas.specs.declared.records.Record.{Record}
 use Rattle.areas.specs.Layout.{Dims, Limits}
-use Rattle.model.specs.Observations.{Observations, Answer, rows, count, suffixes_used, edges_used, suffix_word, edge_word, word_of, word_at, cell_at, seen_by, seen, New, with_cell}
-use Rattle.model.specs.Learners.{filling, asks_cell}
-use Rattle.model.specs.Moves.{Answered}
+use Rattle.model.specs.Observations.{Observations, rows, suffixes_used, edges_used, suffix_word, edge_word, word_of, cell_at, seen_by, seen, New}
+use Rattle.model.specs.Learners.{asks_cell}
 use Rattle.model.specs.Pages.{Entry, Page, answer_of, observations_of, Within, set_cell, cell_entry}
-use Rattle.model.specs.Models.{Model, ModelAs, view_model, observed_in, model_in, model_filling}
+use Rattle.model.specs.Models.{Model, observed_in, model_in}
 use Rattle.model.proofs.Appends.{cell_place}
 use Rattle.model.proofs.Filling.{cell_answer_word}
 use Rattle.model.proofs.Paging.{model_asks_cell, model_fills_cell}
 use Rattle.model.proofs.Spans.{suffixes_long, entries_long, cell_entry_is, spans_cell_entry}
 use Rattle.store.specs.Decoding.{entry_of, page_of, model_of}
 use Rattle.moves.specs.Additions.{CellSet}
-use Rattle.moves.specs.Changes.{on_page}
 use Rattle.moves.specs.Holding.{Holds, Settles}
 use Rattle.moves.specs.Making.{Makes, ChangesBy}
 use Rattle.moves.specs.Observed.{observed_at, page_at}
@@ -24,7 +22,7 @@ use Rattle.moves.proofs.Standing.{answers_fit, answers_bounded}
 use Rattle.moves.proofs.Holding.{turned_by, settles_asking, on_filling}
 use Rattle.lookup.specs.Named.{Named, named_word, AllNamed, AnswerTo}
 use Rattle.lookup.proofs.Held.{as_page, holds_named}
-use Rattle.filling.specs.Filled.{Filling, FillsCells, CellFilled}
+use Rattle.filling.specs.Filled.{Filling, CellFilled}
 
 -- The row of a cell's entry is one of the rows.
 row_of_cell : (k n : ℕ) (p : Page) (u e a : ℕ) → 1 ≤ k → 1 ≤ length p.access → u < suc (length p.access * k) → (cell_entry k p u e a).row < length p.access

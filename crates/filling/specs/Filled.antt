@@ -1,7 +1,7 @@
 -- Turns in which only cells are filled.
 use Rattle.std.specs.Prelude.{◌≡◌, ℕ, ◌<◌, Bool, true, false, List}
 use Rattle.areas.specs.Layout.{Dims}
-use Rattle.model.specs.Observations.{rows, suffixes_used, edges_used, seen, Full}
+use Rattle.model.specs.Observations.{rows, suffixes_used, seen, Full}
 use Rattle.model.specs.Learners.{filling}
 use Rattle.model.specs.Models.{view_model}
 use Rattle.store.specs.Decoding.{model_of}

@@ -1,4 +1,6 @@
 // The observation table is filled: cells take answers told before, and the first whose word was never told of is asked about.
+#![tactic(auto)]
+
 mod answered;
 mod heard;
 mod table;

@@ -1,4 +1,6 @@
 // Reads single lines of two text formats: a table's rows, and answers.
+#![tactic(auto)]
+
 mod answers;
 mod faults;
 mod rows;

@@ -1,8 +1,7 @@
 -- How many words a game has told of, and that they are few.
-use Rattle.std.proofs.Common.{◌≡◌, ℕ, suc, ◌+◌, ◌*◌, ◌^◌, ◌<◌, ◌≤◌, List, [], ◌∷◌, ◌++◌, length, sym, refl, ap, ◌∙◌, subst, mul-le-mul_left, one-add, arith}
+use Rattle.std.proofs.Common.{◌≡◌, ℕ, suc, ◌+◌, ◌*◌, ◌^◌, ◌<◌, ◌≤◌, List, [], ◌∷◌, length, sym, refl, ap, ◌∙◌, mul-le-mul_left, one-add, arith}
 use Rattle.std.proofs.lemmas.Nat.{mul-le}
 use Rattle.std.proofs.lemmas.List.{length_push}
-use Rattle.machines.specs.Words.{Word}
 use Rattle.areas.specs.Layout.{answer_count}
 use Rattle.model.specs.Bits.{bits, fine_words}
 use Rattle.model.proofs.Digits.{digits}

@@ -1,7 +1,7 @@
 -- What the course of a game says of its store, and how it goes on.
 use Rattle.std.proofs.Common.{◌≡◌, ℕ, ◌+◌, ◌^◌, ◌<◌, ◌≤◌, List, [], ◌∷◌, ◌++◌, length, vec_items, sym, refl, ap, ◌∙◌, subst, ⊎_elim, arith}
 use mathlib.Core.Option.{some}
-use Rattle.std.specs.List.{AllByRecursion as All}
+use Rattle.std.specs.List.{AllByRecursion}
 use Rattle.std.proofs.ByRecursion.{All-push}
 use Rattle.machines.specs.Words.{Word, Keys}
 use Rattle.machines.specs.Tables.{shows}
@@ -10,7 +10,7 @@ use Rattle.model.specs.Bits.{fine_words}
 use Rattle.model.specs.States.{State, Stands, store_words}
 use Rattle.promises.specs.declared.Given.{Given}
 use Rattle.promises.specs.declared.Given.TheVariants.{Taken, NotAsked, NoRefute, Full, Unstored}
-use Rattle.promises.specs.Calls.{Call, answered, refuting, replay, answers, refutations, letters}
+use Rattle.promises.specs.Calls.{Call, answered, refuting, replay, refutations}
 use Rattle.promises.specs.Promises.{Refutes, ToldSays, RefutedSays}
 use Rattle.promises.specs.Runs.{tells, refutes}
 use Rattle.promises.proofs.Replays.{replayed, holds_all}
@@ -116,7 +116,7 @@ module _ {k n : ℕ} {machine w : List ℕ} {t : Transcript} {cs : List Call} (c
         refuted =
             ap (λ (z : List ℕ). refuted_in k n cs ++ (record { hypothesis = z; word = vec_items x.word; shown = x.shown } ∷ [])) (sym (counter.hypothesis ∙ look.at.same))
             ∙ (ap (λ (z : List Refutation). z ++ (refutation_of x ∷ [])) course.refuted ∙ sym refuted);
-        each = subst (All (Refuting k machine)) (sym refuted) (All-push (Refuting k machine) (refuted_of t) (refutation_of x) course.each counter.refuting);
+        each = subst (AllByRecursion (Refuting k machine)) (sym refuted) (All-push (Refuting k machine) (refuted_of t) (refutation_of x) course.each counter.refuting);
       }
 
 -- A course with one more word told of goes on.

@@ -1,9 +1,9 @@
 -- The table that is looked at, and where its numbers stand.
-use Rattle.std.proofs.Common.{◌≡◌, ℕ, ◌+◌, ◌-◌, ◌*◌, ◌<◌, ◌≤◌, List, length, take, vec_items, sym, ap, ◌∙◌, subst, arith}
+use Rattle.std.proofs.Common.{◌≡◌, ℕ, ◌+◌, ◌-◌, ◌*◌, ◌≤◌, List, length, take, vec_items, sym, ap, ◌∙◌, subst, arith}
 use Rattle.std.proofs.lemmas.List.{length-take, length_push}
 use Rattle.promises.specs.declared.Given.{Given}
 use Rattle.promises.specs.declared.Given.TheVariants.{Taken}
-use Rattle.promises.specs.Calls.{Call, replay}
+use Rattle.promises.specs.Calls.{Call}
 use Rattle.promises.specs.Promises.{RefutedSays}
 use Rattle.promises.proofs.Replays.{replayed}
 use Rattle.answers.specs.declared.table.Table.{Table}
@@ -12,8 +12,8 @@ use Rattle.store.specs.Reading.{state_of}
 use Rattle.game.specs.declared.transcript.Counterexample.{Counterexample}
 use Rattle.game.specs.declared.transcript.Transcript.{Transcript}
 use Rattle.game.specs.Counterexamples.{refutation_of, refuted_of, Counters, TableNumbers, Adds}
-use Rattle.game.specs.declared.rounds.Ending.{Ending}
-use Rattle.game.specs.Courses.{Course, Looked, most_in, words_of}
+use Rattle.game.specs.declared.turns.Ending.{Ending}
+use Rattle.game.specs.Courses.{Course, Looked, most_in}
 use Rattle.game.specs.Endings.{Onward, Ended}
 use Rattle.game.proofs.Courses.{course_stands, course_full, course_corrected, onward}
 

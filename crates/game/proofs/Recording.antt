@@ -1,25 +1,24 @@
 -- From the course of a game to what is said of it at its beginning and its end.
-use Rattle.std.proofs.Common.{◌≡◌, ℕ, ◌+◌, ◌*◌, ◌<◌, ◌≤◌, List, [], ◌∷◌, ◌++◌, length, sym, refl, ap, ◌∙◌, subst, arith, MatchResult}
-use Rattle.std.specs.List.{AllByRecursion as All}
+use Rattle.std.proofs.Common.{◌≡◌, ℕ, ◌+◌, ◌*◌, List, [], ◌∷◌, length, sym, refl, ap, ◌∙◌, subst, arith, MatchResult}
+use Rattle.std.specs.List.{AllByRecursion}
 use Rattle.std.proofs.lemmas.List.Sums.{sum_by_push}
 use Rattle.machines.specs.Tables.{shows}
 use Rattle.model.specs.States.{most_words}
 use Rattle.promises.specs.declared.Began.{Began}
 use Rattle.promises.specs.declared.Given.{Given}
 use Rattle.promises.specs.declared.Given.TheVariants.{Taken, NotAsked, NoRefute, Full, Unstored}
-use Rattle.promises.specs.Calls.{Call, again, stepped, answered, refuting, one, letters, replay}
+use Rattle.promises.specs.Calls.{Call, again, stepped, answered, refuting, one, letters}
 use Rattle.promises.specs.Promises.{BeganPost}
 use Rattle.promises.specs.Runs.{begins}
-use Rattle.promises.proofs.Replays.{replayed}
 use Rattle.promises.proofs.Fairness.{fair}
 use Rattle.promises.proofs.Refutations.{few_words}
 use Rattle.answers.specs.declared.table.Table.{Table}
 use Rattle.answers.specs.Values.{keys_of, cells_of}
 use Rattle.store.specs.Reading.{state_of}
 use Rattle.game.specs.declared.transcript.Transcript.{Transcript}
-use Rattle.game.specs.declared.rounds.Ending.{Ending}
-use Rattle.game.specs.Counterexamples.{Refutation, refuted_of, Refuting, Empty}
-use Rattle.game.specs.Courses.{with_refutation, refuted_in, Course, most_in, words_of}
+use Rattle.game.specs.declared.turns.Ending.{Ending}
+use Rattle.game.specs.Counterexamples.{Refutation, Refuting, Empty}
+use Rattle.game.specs.Courses.{with_refutation, refuted_in, Course, most_in}
 use Rattle.game.specs.Endings.{Going, Ended}
 use Rattle.game.specs.Games.{finished, letters_of, Recorded, Fit, Learnt, Failed}
 use Rattle.game.proofs.Courses.{course_holds, course_most, course_refuted, course_fine}
@@ -64,7 +63,7 @@ game_begins m k n room w w' t is began empty =
       lengths = sym empty.letters;
       room = omega (arith, empty.letters);
       refuted = sym empty.refuted;
-      each = subst (All (Refuting (keys_of m) (cells_of m))) (sym empty.refuted) tt;
+      each = subst (AllByRecursion (Refuting (keys_of m) (cells_of m))) (sym empty.refuted) tt;
     } in
     let most = course_most course in
     (([], subst (λ (z : ℕ). Course (keys_of m) z (cells_of m) w' t []) (sym most) course), most)

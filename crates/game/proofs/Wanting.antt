@@ -18,9 +18,9 @@ use Rattle.answers.specs.declared.table.Table.{Table}
 use Rattle.answers.specs.Values.{keys_of, cells_of}
 use Rattle.store.specs.Reading.{state_of}
 use Rattle.game.specs.declared.transcript.Transcript.{Transcript}
-use Rattle.game.specs.declared.rounds.Ending.{Ending}
+use Rattle.game.specs.declared.turns.Ending.{Ending}
 use Rattle.game.specs.Courses.{Course, Looked, most_in}
-use Rattle.game.specs.Endings.{Asked, Showing, Onward, Ended, Turned}
+use Rattle.game.specs.Endings.{Asked, Showing, Ended, Turned}
 use Rattle.game.proofs.Courses.{course_holds, course_most}
 
 module _ {k n : ℕ} {machine w : List ℕ} {t : Transcript} {cs : List Call} (course : Course k n machine w t cs) (x o o' : List ℕ) where

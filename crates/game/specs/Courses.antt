@@ -1,8 +1,8 @@
 -- How a game has gone so far: the calls that were made, and the transcript of them.
 use Rattle.std.specs.Prelude.{◌≡◌, ℕ, ◌+◌, ◌<◌, ◌≤◌, List, [], ◌∷◌, ◌++◌, length}
 use Rattle.std.proofs.Math.Option.{Option, some, none}
-use Rattle.std.specs.List.{AllByRecursion as All}
-use Rattle.machines.specs.Words.{Word, Keys}
+use Rattle.std.specs.List.{AllByRecursion}
+use Rattle.machines.specs.Words.{Word}
 use Rattle.machines.specs.Tables.{shows, OfStates}
 use Rattle.machines.specs.Answers.{Said}
 use Rattle.model.specs.States.{State}
@@ -39,7 +39,7 @@ pub record Course (k n : ℕ) (machine w : List ℕ) (t : Transcript) (cs : List
   pub lengths : letters cs ≡ t.letters
   pub room : t.letters ≤ length w
   pub refuted : refuted_in k n cs ≡ refuted_of t
-  pub each : All (Refuting k machine) (refuted_of t)
+  pub each : AllByRecursion (Refuting k machine) (refuted_of t)
 
 -- After these calls a table of so many rows with these numbers is looked at: it is borne out by all that was told, has no more rows than are allowed,
 -- no table for the machine has fewer, and fewer tables were refuted.

@@ -7,8 +7,8 @@ use Rattle.promises.specs.Calls.{Call, replay}
 use Rattle.answers.specs.declared.table.Table.{Table}
 use Rattle.answers.specs.Values.{keys_of, cells_of}
 use Rattle.game.specs.declared.transcript.Transcript.{Transcript}
-use Rattle.game.specs.declared.rounds.Ending.{Ending}
-use Rattle.game.specs.declared.rounds.Ending.TheVariants.{Learnt, Larger, Short, Full, Memory}
+use Rattle.game.specs.declared.turns.Ending.{Ending}
+use Rattle.game.specs.declared.turns.Ending.TheVariants.{Learnt, Larger, Short, Full, Memory}
 use Rattle.game.specs.Counterexamples.{refutation_of, Refuting}
 use Rattle.game.specs.Courses.{Course, Looked, most_in, words_of}
 

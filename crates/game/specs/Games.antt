@@ -15,7 +15,7 @@ use Rattle.answers.specs.Values.{keys_of, cells_of}
 use Rattle.store.specs.Reading.{state_of}
 use Rattle.game.specs.declared.transcript.Counterexample.{Counterexample}
 use Rattle.game.specs.declared.transcript.Transcript.{Transcript}
-use Rattle.game.specs.declared.rounds.Ending.{Ending}
+use Rattle.game.specs.declared.turns.Ending.{Ending}
 use Rattle.game.specs.declared.playing.Game.{Game}
 use Rattle.game.specs.declared.playing.GameFault.{GameFault}
 use Rattle.game.specs.declared.playing.GameFault.TheVariants.{Few, Short, Full, Larger, Memory}

@@ -1,8 +1,10 @@
 // A machine given as a table, played against the learner until its table is learnt.
+#![tactic(auto)]
+
 mod hypotheses;
 mod playing;
-mod rounds;
 mod transcript;
+mod turns;
 
 pub use playing::{Game, GameFault, play};
 pub use transcript::{Counterexample, Transcript};

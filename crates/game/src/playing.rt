@@ -2,9 +2,9 @@
 ghost use Rattle.std.specs.Prelude.{◌≡◌, MatchResult};
 ghost use Rattle.game.specs.Games.{finished, Learnt, Failed};
 
-use crate::rounds;
-use crate::rounds::Ending;
 use crate::transcript::{Counterexample, Transcript};
+use crate::turns;
+use crate::turns::Ending;
 use answers::table::Table;
 use promises::Began;
 use std::alloc::Global;
@@ -54,6 +54,6 @@ pub fn play(
         return Err(GameFault::Few);
     };
     let mut transcript = Transcript::new(heap);
-    let ending = rounds::play_on(heap, machine, store, out, &mut transcript);
+    let ending = turns::play_on(heap, machine, store, out, &mut transcript);
     finish(ending, transcript)
 }

@@ -2,7 +2,7 @@
 use Rattle.std.proofs.Common.{◌≡◌, ℕ, ◌+◌, ◌-◌, ◌<◌, ◌≤◌, min, List, [], length, get_or, take, drop, sym, ap, ◌∙◌, arith}
 use Rattle.std.proofs.lemmas.List.{length-take, length-take-le, length-drop, drop_all, take_all, get_or-take, get_or-drop, ext_get_or}
 use Rattle.areas.specs.declared.area.Area.{Area}
-use Rattle.areas.specs.Layout.{Dims, base_of, size_of, area_of}
+use Rattle.areas.specs.Layout.{Dims, base_of, area_of}
 use Rattle.areas.proofs.Inside.{area_short, get_or-area}
 use Rattle.lookup.specs.Named.{part_of}
 

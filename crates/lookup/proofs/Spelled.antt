@@ -7,7 +7,7 @@ use Rattle.areas.specs.Words.{wide}
 use Rattle.areas.specs.Layout.{Dims, area_of}
 use Rattle.areas.specs.Records.{record_in}
 use Rattle.model.specs.Observations.{Answer, no_answer, count, word_at}
-use Rattle.model.specs.Pages.{Entry, no_entry, keyed, part, answer_of, observations_of}
+use Rattle.model.specs.Pages.{Entry, no_entry, keyed, answer_of, observations_of}
 use Rattle.model.proofs.Tabulating.{length-tabulate, get_d_tabulate}
 use Rattle.store.specs.Decoding.{rows_word, answers_word, letters_word, entry_of, access_in, page_of}
 use Rattle.lookup.specs.Named.{part_of, named_rest, named_word, Named, AllNamed}

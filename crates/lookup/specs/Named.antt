@@ -7,7 +7,7 @@ use Rattle.areas.specs.declared.area.Area.TheVariants.{Header, Answers}
 use Rattle.areas.specs.Layout.{Dims, area_of}
 use Rattle.areas.specs.Records.{record_in}
 use Rattle.model.specs.Observations.{Observations, count, word_at, New}
-use Rattle.model.specs.Pages.{Page, Span, part, keyed}
+use Rattle.model.specs.Pages.{Page, part, keyed}
 use Rattle.store.specs.Decoding.{answers_word, page_of}
 
 -- A part of an area, as far as the area goes.
@@ -20,7 +20,7 @@ named_rest p r = keyed r.key (part p.log (record { start = r.start; size = r.siz
 
 -- The word of a row, perhaps with a key behind it, and behind these a part of the log.
 abbrev pub named_word : Page → Record → Word
-named_word p r = slice_index_or p.access r.row [] ++ named_rest p r
+named_word p r = slice_index_or p.access r.row [] ++ keyed r.key (part p.log (record { start = r.start; size = r.size }))
 
 -- The row is one of the page's, and the part lies within the log.
 pub record Named (p : Page) (r : Record) : Type 0 where

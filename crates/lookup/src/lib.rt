@@ -1,4 +1,6 @@
 // Answers looked up by their words.
+#![tactic(auto)]
+
 mod parts;
 mod search;
 

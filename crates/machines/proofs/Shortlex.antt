@@ -1,6 +1,6 @@
 -- The order of words, shorter ones first.
-use Rattle.std.proofs.Common.{◌≡◌, ◌<◌, ◌⊎◌, length, sym, ◌∙◌, subst, inl, inr, arith}
-use Rattle.machines.specs.Words.{Word, Before, Less}
+use Rattle.std.proofs.Common.{◌∙◌, inl, inr, arith}
+use Rattle.machines.specs.Words.{Word, Less}
 use Rattle.machines.proofs.Alphabet.{before_trans, before_irrefl}
 
 pub less_trans : (u v w : Word) → Less u v → Less v w → Less u w

@@ -1,5 +1,5 @@
 -- A worked example: a box of two keys, where key 0 does nothing and key 1 changes a lamp that shows 0 or 9.
-use Rattle.std.specs.Prelude.{◌≡◌, ℕ, List, [], ◌∷◌}
+use Rattle.std.specs.Prelude.{◌≡◌, List, [], ◌∷◌}
 use Rattle.machines.specs.Tables.{Table, Sound, shows}
 use Rattle.machines.specs.Answers.{Told, Said, ToldApart}
 

@@ -1,5 +1,5 @@
 -- What follows from answers that are right: the theorems, as types, for any relation between words and numbers.
-use Rattle.std.specs.Prelude.{◌≡◌, ℕ, ◌<◌, ◌≤◌, List, [], length, ◌≢◌, slice_index_or}
+use Rattle.std.specs.Prelude.{◌≡◌, ℕ, ◌≤◌, List, [], length, ◌≢◌, slice_index_or}
 use Rattle.machines.specs.Words.{Word, Keys}
 use Rattle.machines.specs.Tables.{Box, Table, Sound, walk, shows, Same, OfStates}
 use Rattle.machines.specs.Answers.{RightOf, OfKeys, Agrees, ToldApart, AllApart}

@@ -1,4 +1,6 @@
 // Words, boxes, tables and answers: the theorems on them, each asked for by a function's contract.
+#![tactic(auto)]
+
 ghost use Rattle.std.specs.Prelude.{ℕ, List};
 ghost use Rattle.machines.specs.Lamp.{LampWorks};
 ghost use Rattle.machines.specs.Theorems.{ApartLeadsApart, ApartWordsFew, BorneLeast, BorneRight, LeadsAlike, MoreStates};
@@ -10,35 +12,35 @@ pub trait Saying {
 
 // Words that were told apart lead to different states.
 pub fn apart_leads_apart<S: Saying>(of: &S) -> u8
-    ensures { ApartLeadsApart (says of.now) }
+    ensures { ApartLeadsApart (S.says of.now) }
 {
     0
 }
 
 // Words told apart are no more than the states of the box.
 pub fn apart_words_few<S: Saying>(of: &S) -> u8
-    ensures { ApartWordsFew (says of.now) }
+    ensures { ApartWordsFew (S.says of.now) }
 {
     0
 }
 
 // A table that is borne out is no larger than any for the box.
 pub fn borne_least<S: Saying>(of: &S) -> u8
-    ensures { BorneLeast (says of.now) }
+    ensures { BorneLeast (S.says of.now) }
 {
     0
 }
 
 // A table that is borne out and as large as one for the box is right.
 pub fn borne_right<S: Saying>(of: &S) -> u8
-    ensures { BorneRight (says of.now) }
+    ensures { BorneRight (S.says of.now) }
 {
     0
 }
 
 // Each word leads where its row's word leads.
 pub fn leads_alike<S: Saying>(of: &S) -> u8
-    ensures { LeadsAlike (says of.now) }
+    ensures { LeadsAlike (S.says of.now) }
 {
     0
 }

@@ -233,7 +233,7 @@ finds_too_many c u v p h other all =
       valid = record {
         formed = v.formed;
         counted = v.counted;
-        phased = record { once = (phase_at v p).once; edge_in = h; all_rows = all; apart = λ j l. differ_split v.formed u j h l (other j l) };
+        phased = record { edge_in = h; all_rows = all; apart = λ j l. differ_split v.formed u j h l (other j l) };
       };
       is = view_at c p;
     }

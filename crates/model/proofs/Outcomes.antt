@@ -1,5 +1,5 @@
 -- What a valid learner is for others: all that is promised of states, and what 'larger' and 'broken' show.
-use Rattle.std.proofs.Common.{◌≡◌, ℕ, ◌+◌, ◌-◌, ◌*◌, ◌<◌, ◌≤◌, List, [], ◌∷◌, ◌++◌, length, get_or, drop, sym, refl, ap, ◌∙◌, subst, inl, inr, mul-le-mul_right, arith, length-append, length-drop}
+use Rattle.std.proofs.Common.{◌≡◌, ℕ, ◌+◌, ◌*◌, ◌<◌, ◌≤◌, List, [], ◌∷◌, ◌++◌, length, get_or, drop, sym, ap, ◌∙◌, subst, inl, inr, mul-le-mul_right, arith, length-append, length-drop}
 use Rattle.std.proofs.lemmas.List.{length_push, get_or_push, get_or_append_left}
 use Rattle.machines.specs.Words.{Word, Keys}
 use Rattle.machines.specs.Answers.{Said, ToldApart}
@@ -21,7 +21,6 @@ use Rattle.model.specs.Observations.{
   New,
   WellFormed,
   row_along,
-  Once,
 }
 use Rattle.model.specs.Learners.{
   middle,
@@ -41,12 +40,12 @@ use Rattle.model.specs.Learners.{
   SplitWords,
   InPhase,
 }
-use Rattle.model.specs.Moves.{ValidStands, ValidSingle, LargerSays, BrokenSays}
+use Rattle.model.specs.Moves.{ValidStands, LargerSays, BrokenSays}
 use Rattle.model.specs.Steps.{RowsShort, AskedShort, OutFits, AnswersFew, AnswersFewer}
 use Rattle.model.proofs.Lists.{nonzero_few, nonzero_gap, push_place}
 use Rattle.model.proofs.Digits.{fits}
 use Rattle.model.proofs.Appends.{cell_place}
-use Rattle.model.proofs.Telling.{length-told, said_at, said_back, once_single, apart_by, apart_sym, apart_as, access_apart, access_keys, edge_keys, told_keys, access_short, edge_short}
+use Rattle.model.proofs.Telling.{length-told, said_at, said_back, apart_by, apart_sym, apart_as, access_apart, access_keys, edge_keys, told_keys, access_short, edge_short}
 use Rattle.model.proofs.Hypotheses.{length-table, borne}
 use Rattle.model.proofs.Filling.{phase_at}
 use Rattle.model.proofs.Bisecting.{keys_take, along_inside, some_left}
@@ -132,19 +131,6 @@ module _ {k n : ℕ} {b : Observations} {bisected refutes last : ℕ} (w : WellF
   hypothesis_short s (larger u) = omega arith
   hypothesis_short s broken = omega arith
 
--- No two answers to one word, in all phases but one.
-once_in : (k n : ℕ) (b : Observations) (s : List ℕ) (bisected refutes last : ℕ) (p : Phase) → InPhase k n b s bisected refutes last p → (p ≡ broken → ⊥) → Once b
-once_in k m b s bisected refutes last filling x n = x.once
-once_in k m b s bisected refutes last (asks_cell u e) x n = x.0.once
-once_in k m b s bisected refutes last shows_table x n = x.once
-once_in k m b s bisected refutes last (bisecting l) x n = x.once
-once_in k m b s bisected refutes last (asks_middle l) x n = x.0.once
-once_in k m b s bisected refutes last (larger u) x n = x.once
-once_in k m b s bisected refutes last broken x n = absurd (n refl)
-
-pub valid_single : ValidSingle
-valid_single c v n = once_single c.observed (once_in c.keys c.most c.observed c.successors c.bisected c.refutes c.last c.phase v.phased n)
-
 pub valid_stands : ValidStands
 valid_stands c v =
     let b = c.observed in
@@ -165,7 +151,6 @@ valid_stands c v =
             unknown = unsaid w t (view c).asked (asked_new w t c.successors c.phase v.phased h);
             room = told_fewer w t c.successors c.phase v.phased (omega (arith, h));
           };
-      single = λ h. valid_single c v (λ e. omega (arith, h, ap waits_in e));
       shown = shown_in w t c.successors c.phase v.phased;
       rows_most = omega (arith, t.shown, w.limits.rows_most);
     }

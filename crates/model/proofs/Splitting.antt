@@ -213,7 +213,7 @@ module _ {k n : ℕ} {b : Observations} {s : List ℕ} {bisected : ℕ} {l : Bis
 pub ends_too_many : EndsTooMany
 ends_too_many c l v p near all =
     let x = phase_at v p in
-    record { valid = record { formed = v.formed; counted = v.counted; phased = record { once = x.once; edge_in = edge_in v.formed x near; all_rows = all; apart = split_all v.formed x near } }; is = view_at c p }
+    record { valid = record { formed = v.formed; counted = v.counted; phased = record { edge_in = edge_in v.formed x near; all_rows = all; apart = split_all v.formed x near } }; is = view_at c p }
 
 pub ends_a_bisection : EndsABisection
 ends_a_bisection c l v p near few =

@@ -1,9 +1,9 @@
 -- What was told, by the numbers of answers; and the keys and lengths of words.
-use Rattle.std.proofs.Common.{◌≡◌, ℕ, zero, suc, ◌+◌, ◌*◌, ◌/◌, ◌%◌, ◌<◌, ◌≤◌, [], ◌∷◌, ◌++◌, map, length, sym, ap, ◌∙◌, subst, arith, length-append}
+use Rattle.std.proofs.Common.{◌≡◌, ℕ, zero, suc, ◌*◌, ◌/◌, ◌%◌, ◌<◌, ◌≤◌, [], ◌∷◌, ◌++◌, map, length, sym, ap, ◌∙◌, subst, arith, length-append}
 use Rattle.std.proofs.lemmas.List.{length-map, get_or-map, map_push}
 use Rattle.std.proofs.lemmas.Nat.{div_below, mod_below}
 use Rattle.machines.specs.Words.{Word, Keys}
-use Rattle.machines.specs.Answers.{Told, In, Said, OfKeys, ToldApart, Single}
+use Rattle.machines.specs.Answers.{Told, In, Said, OfKeys, ToldApart}
 use Rattle.machines.proofs.Walks.{keys-append}
 use Rattle.model.specs.Observations.{
   Answer,
@@ -26,7 +26,6 @@ use Rattle.model.specs.Observations.{
   WellFormed,
   with_answer,
   with_row,
-  Once,
 }
 use Rattle.model.proofs.Lists.{newest_push, length-newest, in_newest, newest_in, map_same}
 use Rattle.model.proofs.Extends.{edge_used, seen_cell, word_kept}
@@ -66,13 +65,6 @@ said_back b w m s =
     let h : p.0 < count b = omega (arith, long, p.1) in
     let e = sym (get_or-map (told_of b) b.answers p.0 no_answer none h) ∙ p.2 in
     (p.0, h, ap (λ (x : Told). x.word) e, ap (λ (x : Told). x.shown) e)
-
--- Where there are no two answers to one word, one thing was told of each.
-pub once_single : (b : Observations) → Once b → Single (Said (told b))
-once_single b once w m n p q =
-    let x = said_back b w m p in
-    let y = said_back b w n q in
-    sym x.3 ∙ ap (shown_at b) (once x.0 y.0 x.1 y.1 (x.2 ∙ sym y.2)) ∙ y.3
 
 -- Two words are told apart by two answers that differ.
 pub apart_by : (b : Observations) (u v s : Word) (c d : ℕ) → c < count b → d < count b → word_at b c ≡ u ++ s → word_at b d ≡ v ++ s → (shown_at b c ≡ shown_at b d → ⊥) → ToldApart (Said (told b)) u v

@@ -1,7 +1,7 @@
 -- Decisions of what is made of things that are decided.
 use Rattle.std.specs.Prelude.{◌≡◌, ℕ, zero, suc, ◌<◌, ◌⊎◌, [], ◌∷◌}
 use Rattle.std.proofs.Common.{inl, inr, ⊎_elim, zero-le, suc-le-suc, not-suc-le-zero, le_of_suc-le-suc}
-use Rattle.std.proofs.Math.Logic.{Dec·and}
+use Rattle.std.proofs.Math.Logic.Dec
 use mathlib.Core.List.{List-discrete}
 use Rattle.std.proofs.Math.Option.{Option, some, none}
 use Rattle.std.proofs.Math.Decide.{ℕ_discrete, dec_lt, map_dec}
@@ -34,7 +34,7 @@ pub dec_all : {P : ℕ → Type 0} → ((i : ℕ) → Dec (P i)) → (n : ℕ) �
 dec_all d zero = yes (λ i h. absurd (not-suc-le-zero h))
 dec_all {P} d (suc n) =
     map_dec (λ h. elim [ zero ↦ λ l. h.0 | suc i ↦ λ l. h.1 i (le_of_suc-le-suc l) ]) (λ f. (f 0 (suc-le-suc zero-le), λ i h. f (suc i) (suc-le-suc h)))
-    (Dec·and (d 0) (dec_all {P = λ i. P (suc i)} (λ i. d (suc i)) n))
+    (Dec.and (d 0) (dec_all {P = λ i. P (suc i)} (λ i. d (suc i)) n))
 
 -- A number below n + 1 that is as P says is 0, or 1 and a number below n.
 some_split : (P : ℕ → Type 0) {n : ℕ} (i : ℕ) → i < suc n → P i → P 0 ⊎ ((j : ℕ) × (j < n) × P (suc j))
@@ -59,4 +59,4 @@ dec_word = List-discrete ℕ_discrete
 -- Whether a word is one of keys below k.
 pub dec_keys : (k : ℕ) (w : Word) → Dec (Keys k w)
 dec_keys k [] = yes tt
-dec_keys k (x ∷ w) = Dec·and (dec_lt x k) (dec_keys k w)
+dec_keys k (x ∷ w) = Dec.and (dec_lt x k) (dec_keys k w)

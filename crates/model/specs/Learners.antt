@@ -167,9 +167,8 @@ pub record SplitBy (b : Observations) (u v : Word) (c d : ℕ) : Type 0 where
 abbrev pub SplitWords : Observations → Word → Word → Type 0
 SplitWords b u v = (c : ℕ) × (c < count b) × ((d : ℕ) × (d < count b) × SplitBy b u v c d)
 
--- There are no two answers to one word, as many rows as there may be, and the word of one more edge is told apart from all access words.
+-- There are as many rows as there may be, and the word of one more edge is told apart from all access words.
 pub record TooMany (k n : ℕ) (b : Observations) (u : ℕ) : Type 0 where
-  pub once : Once b
   pub edge_in : u < edges_used k b
   pub all_rows : rows b ≡ n
   pub apart : (j : ℕ) → j < rows b → SplitWords b (edge_word k b u) (access_word b j)

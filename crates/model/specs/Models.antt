@@ -1,6 +1,6 @@
 -- The learner as it is kept, on a page: what holds of it, its decision, and the moves as they are written.
 use Rattle.std.specs.Prelude.{◌≡◌, ℕ, suc, ◌+◌, ◌<◌, ◌≤◌, List, ◌++◌, length, slice_index}
-use Rattle.std.proofs.Math.Logic.{Dec·and}
+use Rattle.std.proofs.Math.Logic.Dec
 use Rattle.std.proofs.Math.Option.{Option, some}
 use Rattle.std.proofs.Math.Decide.{dec_le, map_dec}
 use Rattle.machines.specs.Words.{Word}
@@ -50,8 +50,8 @@ pub record ModelAs (m : Model) (st : State) : Type 0 where
 pub dec_model : (m : Model) → Dec (ValidModel m)
 dec_model m =
     map_dec (λ h. record { spans = record { suffixes = h.0.0; entries = h.0.1 }; valid = h.1 }) (λ v. ((v.spans.suffixes, v.spans.entries), v.valid))
-    (Dec·and
-    (Dec·and
+    (Dec.and
+    (Dec.and
     (dec_all {P = λ e. Within m.page.log (suffix_span m.page e)} (λ e. dec_le ((suffix_span m.page e).start + (suffix_span m.page e).size) (length m.page.log)) (length m.page.suffixes))
     (dec_all {P = λ c. Within m.page.log (entry_at m.page c).span} (λ c. dec_le ((entry_at m.page c).span.start + (entry_at m.page c).span.size) (length m.page.log)) (length m.page.entries)))
     (dec_valid (learner_of m)))

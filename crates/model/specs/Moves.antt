@@ -3,7 +3,7 @@ use Rattle.std.specs.Prelude.{◌≡◌, ℕ, suc, ◌+◌, ◌*◌, ◌<◌, �
 use Rattle.std.proofs.Math.Decide.{ℕ_discrete}
 use Rattle.machines.specs.Words.{Word, Keys}
 use Rattle.machines.specs.Tables.{Table, next, shows}
-use Rattle.machines.specs.Answers.{Said, AllApart, ToldApart, TwoAnswers, Single}
+use Rattle.machines.specs.Answers.{Said, AllApart, ToldApart, TwoAnswers}
 use Rattle.machines.specs.Borne.{IsBorneOut}
 use Rattle.model.specs.States.{State, Stands, fresh, asks, showing, hears, refuted_by}
 use Rattle.model.specs.Observations.{
@@ -48,10 +48,6 @@ pub record StandsAs (c : Learner) (st : State) : Type 0 where
 -- Of every valid learner all holds that is promised of states.
 abbrev pub ValidStands : Type 0
 ValidStands = (c : Learner) → Valid c → Stands (view c)
-
--- One thing was told of each word, unless there are two answers to one.
-abbrev pub ValidSingle : Type 0
-ValidSingle = (c : Learner) → Valid c → (c.phase ≢ broken) → Single (Said (view c).told)
 
 -- A learner with all but its keys and the most states replaced.
 abbrev pub changed : Learner → Observations → List ℕ → ℕ → ℕ → ℕ → Phase → Learner

@@ -2,7 +2,7 @@
 use Rattle.std.specs.Prelude.{◌≡◌, ℕ, ◌+◌, ◌*◌, ◌<◌, ◌≤◌, List, [], ◌∷◌, length}
 use Rattle.machines.specs.Words.{Word, Keys}
 use Rattle.machines.specs.Tables.{Table}
-use Rattle.machines.specs.Answers.{Told, Said, OfKeys, Single}
+use Rattle.machines.specs.Answers.{Told, Said, OfKeys}
 use Rattle.machines.specs.Borne.{IsBorneOut}
 use Rattle.model.specs.Bits.{fine_words}
 
@@ -72,6 +72,5 @@ pub record Stands (st : State) : Type 0 where
   pub few : length st.told ≤ most_words st.keys st.most st.refuted
   pub fine : length st.told ≤ fine_words st.keys st.most st.most st.refuted
   pub asking : st.waits ≡ 1 → Asking st
-  pub single : 0 < st.waits → Single (Said st.told)
   pub shown : st.waits ≡ 2 → (ws : List Word) × IsBorneOut st.keys st.rows st.hypothesis ws (Said st.told)
   pub rows_most : st.rows ≤ st.most

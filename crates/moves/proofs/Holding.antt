@@ -1,5 +1,5 @@
 -- Turns from one memory that holds a valid learner to another.
-use Rattle.std.proofs.Common.{◌≡◌, ℕ, suc, ◌<◌, Bool, true, false, List, length, sym, refl, ap, ◌∙◌, subst}
+use Rattle.std.proofs.Common.{◌≡◌, ℕ, suc, ◌<◌, Bool, true, false, List, sym, refl, ap, ◌∙◌, subst}
 use mathlib.Core.Option.{some}
 use Rattle.areas.specs.Layout.{Dims}
 use Rattle.machines.specs.Tables.{Table}

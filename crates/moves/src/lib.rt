@@ -1,4 +1,6 @@
 // One move of the learner at a time: reads and writes of its memory, safe on any memory, each said in the model's terms.
+#![tactic(auto)]
+
 pub mod answers;
 pub mod cells;
 pub mod counters;

@@ -1,4 +1,6 @@
 // Plays some boxes against the learner, and prints each table that it shows and how it was refuted.
+#![tactic(auto)]
+
 mod boxes;
 mod problem;
 mod show;
@@ -6,6 +8,7 @@ mod show;
 use crate::boxes::{EXAMPLES, Example};
 use crate::problem::Problem;
 use answers::table::Table;
+use std::process::ExitCode;
 
 // The words of the store: 3.5 MiB.
 const STORE: usize = 917504;
@@ -37,12 +40,12 @@ fn run(rt: &HostRuntime) -> Result<(), Problem> {
     Ok(())
 }
 
-fn main(rt: HostRuntime) -> Result<(), Problem> {
+fn main(rt: HostRuntime) -> Result<ExitCode, Problem> {
     match run(&rt) {
-        Ok(()) => Ok(()),
+        Ok(()) => Ok(ExitCode::SUCCESS),
         Err(problem) => {
             eprintln!(rt; "play: {problem}")?;
-            Err(problem)
+            Ok(ExitCode::FAILURE)
         }
     }
 }

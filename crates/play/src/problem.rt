@@ -3,7 +3,7 @@ use answers::table::makes::TableFault;
 use std::alloc::AllocError;
 use std::{fmt, io};
 
-#[derive(Drop)]
+#[derive(Debug, Drop)]
 pub enum Problem {
     NoTable,
     NoStore,

@@ -3,12 +3,12 @@ use Rattle.std.proofs.Common.{◌≡◌, ℕ, ◌+◌, ◌*◌, List, length, ta
 use mathlib.Core.Option.{Option, some}
 use Rattle.machines.specs.Words.{Word, Keys}
 use Rattle.machines.specs.Tables.{Table}
-use Rattle.machines.specs.Answers.{Said, Single}
+use Rattle.machines.specs.Answers.{Said}
 use Rattle.model.specs.States.{State, Asking, asks, showing}
 use Rattle.model.specs.Learners.{Phase, filling, asks_cell, shows_table, bisecting, asks_middle, larger, broken, Learner, waits_in, view, Valid}
 use Rattle.model.specs.Moves.{in_phase}
 use Rattle.model.proofs.Refuting.{edges_apart}
-use Rattle.model.proofs.Outcomes.{valid_stands, valid_single, larger_says, broken_says}
+use Rattle.model.proofs.Outcomes.{valid_stands, larger_says, broken_says}
 use Rattle.promises.specs.declared.Wanted.{Wanted}
 use Rattle.promises.specs.Calls.{table_in}
 use Rattle.promises.specs.Promises.{Grows, TableBorne, LargerShown, NextSays}
@@ -31,10 +31,6 @@ BorneIn st = TableBorne st st.rows st.hypothesis
 shown_borne : (c : Learner) → Valid c → waits_in c.phase ≡ 2 → BorneIn (view c)
 shown_borne c v e = (c.observed.access, edges_apart c v (looks c.phase e))
 
--- To be larger is not to be broken.
-not_broken : (u : ℕ) → larger u ≡ broken → ⊥
-not_broken u e = let z : ◌≡◌ {A = ℕ} 0 1 = cc in omega arith
-
 module _ (state_of : List ℕ → Option State) where
   pub ask_kept : AskKept state_of
   ask_kept c d w w' o o' next reads written =
@@ -45,7 +41,6 @@ module _ (state_of : List ℕ → Option State) where
           rest = written.rest;
           keys = subst (Keys c.keys) (sym written.front) x.word_keys;
           new = subst (λ (v : Word). (a : ℕ) → Said (view c).told v a → ⊥) (sym written.front) x.unknown;
-          single = subst (λ (st : State). Single (Said st.told)) next.is ((valid_stands d next.valid).single (omega (arith, next.waits)));
           few = x.room;
           same = λ e. written.front ∙ next.same e;
           calm = next.calm;
@@ -65,7 +60,6 @@ module _ (state_of : List ℕ → Option State) where
       let front : (view d).hypothesis ≡ table_in (view c) rows o' = sym written.front ∙ ap (λ (k : ℕ). take (rows * (k + 1)) o') keys in (
         record {
           borne = subst (TableBorne (view c) rows) front (subst BorneIn is (shown_borne d v e));
-          single = subst (λ (st : State). Single (Said st.told)) is ((valid_stands d v).single (omega (arith, e)));
           allowed = omega (arith, most, (valid_stands d v).rows_most);
           more = grows;
           rest = subst (λ (k : ℕ). drop (rows * (k + 1)) o' ≡ drop (rows * (k + 1)) o) keys written.rest;
@@ -83,12 +77,7 @@ module _ (state_of : List ℕ → Option State) where
       table_says c c w w o o' v e is (inr (record { waits = e; same = written.front; as_many = refl })) reads written
 
   pub larger_kept : LargerKept state_of
-  larger_kept c d u w w' o v p is reads = (
-    subst LargerShown is (larger_says d u v p),
-    reads ∙ ap some is,
-    refl,
-    subst (λ (st : State). Single (Said st.told)) is (valid_single d v (λ e. not_broken u (sym p ∙ e))),
-  )
+  larger_kept c d u w w' o v p is reads = (subst LargerShown is (larger_says d u v p), reads ∙ ap some is, refl)
 
   pub broken_kept : BrokenKept state_of
   broken_kept c w o v p reads = (broken_says c v p, reads, refl)

@@ -3,7 +3,7 @@ use Rattle.std.specs.Prelude.{◌≡◌, ℕ, ◌+◌, ◌*◌, ◌<◌, ◌≤�
 use Rattle.std.proofs.Math.Option.{Option, some, none}
 use Rattle.machines.specs.Words.{Word, Keys}
 use Rattle.machines.specs.Tables.{Table, shows}
-use Rattle.machines.specs.Answers.{Said, TwoAnswers, Single}
+use Rattle.machines.specs.Answers.{Said, TwoAnswers}
 use Rattle.model.specs.States.{State, Stands, fresh, asks, showing, hears, refuted_by, most_words, store_words, out_words}
 use Rattle.model.specs.Moves.{ApartWords, EdgesTold}
 use Rattle.promises.specs.declared.Began.{Began}
@@ -18,14 +18,13 @@ use Rattle.promises.specs.Calls.{table_in}
 abbrev pub Unfit : ℕ → ℕ → ℕ → List ℕ → Type 0
 Unfit k n room w = (k < 1) ⊎ ((64 < k) ⊎ ((n < 1) ⊎ ((1024 < n) ⊎ (length w < store_words k n room))))
 
--- A question: its word of m keys stands first in out, the rest of out is as it was, nothing was told of it, one thing at most was told of each word, and one more answer is within the bound;
+-- A question: its word of m keys stands first in out, the rest of out is as it was, nothing was told of it, and one more answer is within the bound;
 -- while an answer is waited for it is the word asked about before, and while a table is looked at there is no question.
 pub record AskSays (st : State) (m : ℕ) (o o' : List ℕ) : Type 0 where
   pub whole : length (take m o') ≡ m
   pub rest : drop m o' ≡ drop m o
   pub keys : Keys st.keys (take m o')
   pub new : (a : ℕ) → Said st.told (take m o') a → ⊥
-  pub single : Single (Said st.told)
   pub few : length st.told < most_words st.keys st.most st.refuted
   pub same : st.waits ≡ 1 → take m o' ≡ st.asked
   pub calm : st.waits ≡ 2 → ⊥
@@ -44,10 +43,9 @@ Grows st rows t = (st.rows < rows) ⊎ LookedAt st rows t
 abbrev pub TableBorne : State → ℕ → Table → Type 0
 TableBorne st rows t = (ws : List Word) × EdgesTold st.keys rows t ws (Said st.told)
 
--- A table: it stands first in out, the rest of out is as it was, it is borne out, has no more rows than states are allowed, and grows; one thing at most was told of each word.
+-- A table: it stands first in out, the rest of out is as it was, it is borne out, has no more rows than states are allowed, and grows.
 pub record TableSays (st : State) (rows : ℕ) (o o' : List ℕ) : Type 0 where
   pub borne : TableBorne st rows (table_in st rows o')
-  pub single : Single (Said st.told)
   pub allowed : rows ≤ st.most
   pub more : Grows st rows (table_in st rows o')
   pub rest : drop (rows * (st.keys + 1)) o' ≡ drop (rows * (st.keys + 1)) o
@@ -83,7 +81,7 @@ module _ (state_of : List ℕ → Option State) where
   NextSays none w w' o o' Short = Unit {0}
   NextSays (some st) w w' o o' (Ask m) = AskSays st m o o' × (state_of w' ≡ some (asks st (take m o')))
   NextSays (some st) w w' o o' (Wanted.Table rows) = TableSays st rows o o' × (state_of w' ≡ some (showing st rows (table_in st rows o')))
-  NextSays (some st) w w' o o' Larger = LargerShown st × (state_of w' ≡ some st) × (o' ≡ o) × Single (Said st.told)
+  NextSays (some st) w w' o o' Larger = LargerShown st × (state_of w' ≡ some st) × (o' ≡ o)
   NextSays (some st) w w' o o' Broken = TwoAnswers (Said st.told) × (state_of w' ≡ some st) × (o' ≡ o)
   NextSays (some st) w w' o o' NoStore = ⊥
   NextSays (some st) w w' o o' Short = (length o < out_words st.keys st.most st.refuted) × (w' ≡ w) × (o' ≡ o)

@@ -1,4 +1,6 @@
 // What the calls of a learner answer; and the theorems on what they promise, each asked for by a function's contract.
+#![tactic(auto)]
+
 ghost use Rattle.std.specs.Prelude.{ℕ, List};
 ghost use Rattle.std.proofs.Math.Option.{Option};
 ghost use Rattle.model.specs.States.{State};

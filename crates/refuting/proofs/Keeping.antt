@@ -1,19 +1,18 @@
 -- A refuting word and its answer are kept, and what follows.
-use Rattle.std.proofs.Common.{◌≡◌, ℕ, zero, suc, ◌+◌, ◌-◌, ◌*◌, ◌^◌, ◌<◌, ◌≤◌, List, [], ◌∷◌, ◌++◌, length, get_or, Some, None, sym, refl, ap, ◌∙◌, subst, append-nil, arith}
+use Rattle.std.proofs.Common.{◌≡◌, ℕ, zero, suc, ◌+◌, ◌-◌, ◌^◌, ◌<◌, ◌≤◌, List, [], ◌∷◌, ◌++◌, length, get_or, Some, None, sym, refl, ap, ◌∙◌, subst, append-nil, arith}
 use Rattle.std.proofs.lemmas.List.{get_or_push}
 use Rattle.areas.specs.declared.records.Record.{Record}
 use Rattle.areas.specs.declared.area.Area.TheVariants.{Header, Letters}
 use Rattle.areas.specs.Words.{wide}
-use Rattle.areas.specs.Layout.{Dims, answer_count, size_of, area_of, Limits}
+use Rattle.areas.specs.Layout.{Dims, size_of, area_of, Limits}
 use Rattle.areas.proofs.Sums.{layout_fits}
-use Rattle.machines.specs.Words.{Word, Keys}
-use Rattle.machines.specs.Tables.{shows}
-use Rattle.model.specs.States.{store_words, refuted_by}
-use Rattle.model.specs.Observations.{Observations, Answer, no_answer, rows, count, answer_at, cell_at, edge_of, one_less, leads_to, New}
-use Rattle.model.specs.Learners.{Bisection, Phase, bisecting, broken, shows_table, waits_in}
+use Rattle.machines.specs.Words.{Word}
+use Rattle.model.specs.States.{refuted_by}
+use Rattle.model.specs.Observations.{Observations, Answer, no_answer, count, cell_at, edge_of, one_less, leads_to, New}
+use Rattle.model.specs.Learners.{Bisection, bisecting, broken, waits_in}
 use Rattle.model.specs.Moves.{first_bisection, Refuted}
-use Rattle.model.specs.Pages.{Entry, Page, observations_of, add_entry, add_letters, refuting_entry, add_refuting}
-use Rattle.model.specs.Models.{Model, ModelAs, view_model, learner_of, observed_in, model_in, model_refute, model_break}
+use Rattle.model.specs.Pages.{observations_of, add_entry, add_letters, refuting_entry, add_refuting}
+use Rattle.model.specs.Models.{Model, view_model, learner_of, observed_in, model_in, model_refute}
 use Rattle.model.proofs.Filling.{phase_at}
 use Rattle.model.proofs.Paging.{model_refutes_anew, model_refutes_told}
 use Rattle.model.proofs.Spans.{entries_long, observations_refuting}

@@ -1,11 +1,11 @@
 -- What the table shows after a word.
-use Rattle.std.proofs.Common.{◌≡◌, ℕ, suc, ◌<◌, List, Some, None, Option, sym, ap, ◌∙◌, subst, arith}
+use Rattle.std.proofs.Common.{◌≡◌, ℕ, ◌<◌, List, Option, sym, ap, ◌∙◌, arith}
 use Rattle.areas.specs.Layout.{Dims, Limits}
 use Rattle.machines.specs.Tables.{shows}
-use Rattle.machines.specs.Words.{Word, Keys}
-use Rattle.model.specs.Observations.{rows, edge_of, seen, one_less, leads_to, Closed, Full}
-use Rattle.model.specs.Learners.{Phase, hypothesis_in, shows_table, Shows}
-use Rattle.model.specs.Models.{Model, learner_of, observed_in, view_model}
+use Rattle.machines.specs.Words.{Word}
+use Rattle.model.specs.Observations.{rows, edge_of, seen, one_less, leads_to}
+use Rattle.model.specs.Learners.{Phase, hypothesis_in}
+use Rattle.model.specs.Models.{view_model}
 use Rattle.model.proofs.Filling.{phase_at}
 use Rattle.model.proofs.Hypotheses.{shows_word, leads_inside}
 use Rattle.store.specs.Decoding.{model_of}

@@ -1,5 +1,5 @@
 -- Words of keys, letter by letter.
-use Rattle.std.proofs.Common.{◌≡◌, ℕ, ◌+◌, ◌<◌, List, [], ◌∷◌, ◌++◌, length, get_or, take, drop, sym, subst}
+use Rattle.std.proofs.Common.{ℕ, ◌+◌, ◌<◌, [], ◌∷◌, length, get_or, take, sym, subst}
 use Rattle.std.proofs.lemmas.List.{take_more, drop_more}
 use Rattle.machines.specs.Words.{Word, Keys}
 use Rattle.machines.proofs.Walks.{keys-append}

@@ -1,4 +1,6 @@
 // A table that was shown is refuted by a word after which the box shows something else.
+#![tactic(auto)]
+
 mod hypothesis;
 mod letters;
 mod refutation;

@@ -3,7 +3,7 @@ use std::alloc::{AllocError, AllocFailed};
 use std::{fmt, io};
 
 // What is wrong with them.
-#[derive(Drop)]
+#[derive(Debug, Drop)]
 pub enum Wrong {
     Usage,
     NoNumber,

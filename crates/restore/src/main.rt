@@ -1,9 +1,12 @@
 // Makes a store for a box with so many keys and at most so many states, and says what it has room for.
+#![tactic(auto)]
+
 mod arguments;
 
 use crate::arguments::Wrong;
 use promises::Began;
 use std::env;
+use std::process::ExitCode;
 
 // The words of the store: 3.5 MiB, which leaves half a MiB for all else.
 const WORDS: usize = 917504;
@@ -54,12 +57,12 @@ fn run(rt: &HostRuntime) -> Result<(), Wrong> {
     make(rt, keys, states)
 }
 
-fn main(rt: HostRuntime) -> Result<(), Wrong> {
+fn main(rt: HostRuntime) -> Result<ExitCode, Wrong> {
     match run(&rt) {
-        Ok(()) => Ok(()),
+        Ok(()) => Ok(ExitCode::SUCCESS),
         Err(wrong) => {
             eprintln!(rt; "restore: {wrong}")?;
-            Err(wrong)
+            Ok(ExitCode::FAILURE)
         }
     }
 }

@@ -1,18 +1,17 @@
 -- A table is shown, or a search begins.
-use mathlib.Core.Path.{◌≡◌, refl, ap, subst, sym, ◌∙◌}
+use mathlib.Core.Path.{◌≡◌, ap, subst, ◌∙◌}
 use mathlib.Core.Bool.{Bool}
 use mathlib.Core.List.{List}
-use Prim.Native.Nat.{ℕ, ◌<◌}
+use Prim.Native.Nat.{ℕ}
 use Rattle.areas.specs.Layout.{Dims}
-use Rattle.model.specs.States.{showing}
-use Rattle.model.specs.Observations.{rows, count, table_of, Closed}
+use Rattle.model.specs.Observations.{rows, table_of}
 use Rattle.model.specs.Learners.{Bisection, shows_table, bisecting}
 use Rattle.model.specs.Moves.{first_bisection}
-use Rattle.model.specs.Models.{Model, view_model, observed_in, model_in, model_shown, model_along}
+use Rattle.model.specs.Models.{Model, observed_in, model_in}
 use Rattle.model.proofs.Paging.{model_shows, model_starts_bisection}
 use Rattle.store.specs.Decoding.{model_of}
 use Rattle.moves.specs.Changes.{last_shown}
-use Rattle.moves.specs.Holding.{Holds, Settles, Turned, Rounded}
+use Rattle.moves.specs.Holding.{Holds, Settles, Rounded}
 use Rattle.moves.specs.Making.{Makes, ChangesBy}
 use Rattle.moves.specs.Observed.{observed_at}
 use Rattle.moves.proofs.Standing.{makes_by_then}

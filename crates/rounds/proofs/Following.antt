@@ -1,18 +1,17 @@
 -- One step of a round after another.
-use mathlib.Core.Path.{◌≡◌, refl, ap, subst, sym, ◌∙◌}
+use mathlib.Core.Path.{ap, subst, sym}
 use mathlib.Core.Bool.{Bool}
 use mathlib.Core.List.{List}
-use Prim.Native.Nat.{ℕ, suc, ◌+◌, ◌<◌, ◌≤◌}
+use Prim.Native.Nat.{ℕ, ◌+◌, ◌<◌, ◌≤◌}
 use native.Mathlib.Omega.{arith}
 use Rattle.areas.specs.Layout.{Dims}
 use Rattle.model.specs.Observations.{Observations, rows, edges_used, Closed}
-use Rattle.model.specs.Learners.{Phase, filling}
 use Rattle.model.specs.Moves.{OtherThanRows}
 use Rattle.model.specs.Models.{view_model}
 use Rattle.store.specs.Decoding.{model_of}
-use Rattle.moves.specs.Holding.{Holds, Turned, Grown, Settles, Rounded}
+use Rattle.moves.specs.Holding.{Holds, Turned, Grown, Rounded}
 use Rattle.moves.specs.Observed.{observed_at}
-use Rattle.moves.proofs.Holding.{turned_none, turned_then, turned_holds, rounded_after, settles_after}
+use Rattle.moves.proofs.Holding.{turned_none, turned_then, turned_holds, rounded_after}
 use Rattle.closing.specs.Leading.{FullTable, AllLed, Stray, Strays}
 use Rattle.closing.proofs.Led.{led_observed, led_turned, led_full}
 use Rattle.closing.proofs.Held.{rows_few}

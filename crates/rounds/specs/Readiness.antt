@@ -1,8 +1,8 @@
 -- Learners that can go on by themselves, and tables that are ready.
-use Rattle.std.specs.Prelude.{◌≡◌, List, ℕ}
+use Rattle.std.specs.Prelude.{List, ℕ}
 use Rattle.areas.specs.Layout.{Dims}
 use Rattle.model.specs.Observations.{Closed, Agreed}
-use Rattle.model.specs.Learners.{Phase, filling, asks_cell, shows_table, bisecting, asks_middle, larger, broken, Bisection}
+use Rattle.model.specs.Learners.{Phase, filling, asks_cell, shows_table, bisecting, asks_middle, larger, broken}
 use Rattle.store.specs.Decoding.{model_of}
 use Rattle.moves.specs.Observed.{observed_at}
 use Rattle.closing.specs.Leading.{FullTable}

@@ -1,4 +1,6 @@
 // A search by halves along an answer.
+#![tactic(auto)]
+
 mod halves;
 mod narrowing;
 mod splitting;

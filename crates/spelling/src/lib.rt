@@ -1,4 +1,6 @@
 // Words given by their parts, compared and written letter by letter.
+#![tactic(auto)]
+
 ghost use Rattle.std.specs.Prelude.{◌≡◌, ◌+◌, [], length, Decides, slice_index};
 ghost use Rattle.model.specs.Pages.{keyed};
 ghost use Rattle.spelling.specs.Spelt.{spelt, Puts};

@@ -1,6 +1,6 @@
 -- From memory to the state that it holds, and back.
-use Rattle.std.proofs.Common.{◌≡◌, ℕ, ◌≤◌, List, length, get_or, sym, refl, ap, ◌∙◌, subst, arith}
-use mathlib.Core.Option.{Option, some, none}
+use Rattle.std.proofs.Common.{◌≡◌, ℕ, ◌≤◌, List, length, sym, refl, ap, ◌∙◌, subst, arith}
+use mathlib.Core.Option.{some}
 use Rattle.areas.specs.declared.area.Area.TheVariants.{Header, Successors, Letters}
 use Rattle.areas.specs.Words.{wide}
 use Rattle.areas.specs.Layout.{Dims, sized, size_of, area_of, Limits}
@@ -9,7 +9,7 @@ use Rattle.model.specs.Deciding.{given}
 use Rattle.model.specs.Models.{Model, ValidModel, view_model, model_begun}
 use Rattle.model.proofs.Paging.{model_stands, model_begins}
 use Rattle.promises.specs.Promises.{Lawful}
-use Rattle.store.specs.Decoding.{store_mark, mark_word, keys_word, most_word, letters_word, dims_of, model_of}
+use Rattle.store.specs.Decoding.{letters_word, dims_of, model_of}
 use Rattle.store.specs.Begun.{LaidOut}
 use Rattle.store.specs.Reading.{Stored, MovesTo, dec_stored, state_of}
 

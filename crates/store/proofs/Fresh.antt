@@ -1,5 +1,5 @@
 -- A memory with nothing told, area by area.
-use Rattle.std.proofs.Common.{◌≡◌, ℕ, zero, suc, ◌+◌, ◌*◌, ◌<◌, ◌≤◌, List, [], ◌∷◌, length, get_or, take, drop, set, replicate, sym, refl, ap, ◌∙◌, subst, inl, inr, mul-le-mul, one-add, arith}
+use Rattle.std.proofs.Common.{◌≡◌, ℕ, zero, suc, ◌+◌, ◌*◌, ◌<◌, ◌≤◌, List, [], ◌∷◌, length, get_or, take, drop, set, replicate, sym, refl, ap, ◌∙◌, inl, inr, mul-le-mul, one-add, arith}
 use Rattle.std.proofs.lemmas.List.{get_or-replicate, get_or_past, length-replicate}
 use Rattle.std.proofs.lemmas.Bool.{cases_lt}
 use Rattle.areas.specs.declared.area.Area.TheVariants.{Header, Edges, Access, Sizes, Suffixes, Cells, Successors, Answers, Letters}
@@ -13,7 +13,7 @@ use Rattle.areas.specs.Spans.{span_in}
 use Rattle.areas.proofs.Inside.{length-area, get_or-area}
 use Rattle.areas.specs.Records.{record_in}
 use Rattle.model.specs.Observations.{tabulate}
-use Rattle.model.specs.Models.{Model, model_begun}
+use Rattle.model.specs.Models.{model_begun}
 use Rattle.model.specs.Pages.{Span, no_span}
 use Rattle.store.specs.Decoding.{store_mark, letters_word, access_in, suffix_in, entry_of, phase_in, page_of, model_of}
 use Rattle.store.specs.Begun.{LaidOut}

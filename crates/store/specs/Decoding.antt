@@ -2,7 +2,6 @@
 use Rattle.std.specs.Prelude.{ℕ, zero, suc, ◌*◌, List, length, take, drop, slice_index}
 use Rattle.areas.specs.declared.area.Area.TheVariants.{Header, Edges, Access, Sizes, Suffixes, Cells, Successors, Answers, Letters}
 use Rattle.areas.specs.declared.records.Record.{Record}
-use Rattle.areas.specs.declared.spans.Span as stored
 use Rattle.areas.specs.Words.{wide}
 use Rattle.areas.specs.Layout.{Dims, sized, area_of}
 use Rattle.areas.specs.Records.{record_in}

@@ -1,4 +1,6 @@
 // The learner's memory: what counts as a store, and what begins one.
+#![tactic(auto)]
+
 ghost use Rattle.store.specs.Reading.{StoresStand};
 
 mod beginning;

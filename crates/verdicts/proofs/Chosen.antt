@@ -1,11 +1,11 @@
 -- Choosing answers one by one whose words are told apart.
-use Rattle.std.proofs.Common.{◌≡◌, ℕ, ◌+◌, ◌<◌, ◌≤◌, ◌⊎◌, List, [], ◌∷◌, ◌++◌, map, length, get_or, sym, refl, ap, ◌∙◌, subst, inl, inr, arith}
+use Rattle.std.proofs.Common.{◌≡◌, ℕ, ◌+◌, ◌<◌, ◌≤◌, List, [], ◌∷◌, ◌++◌, map, length, get_or, Option, Some, None, sym, refl, ap, ◌∙◌, subst, inl, inr, arith}
 use Rattle.std.proofs.lemmas.List.{length_push, get_or_append_left, get_or_push, get_or-map, length-map}
-use Rattle.std.proofs.lemmas.Bool.{cases_eq, cases_lt, cases_order}
+use Rattle.std.proofs.lemmas.Bool.{cases_lt, cases_order}
 use Rattle.machines.specs.Words.{Word}
 use Rattle.machines.specs.Answers.{Told, Said, ToldApart, AllApart}
 use Rattle.machines.proofs.Apart.{apart_words_few}
-use Rattle.verdicts.specs.Greedy.{ApartFromAll, Greedy}
+use Rattle.verdicts.specs.Greedy.{FirstAlike, ApartFromAll, Greedy}
 use Rattle.verdicts.specs.Orders.{word_at, FirstSaid}
 use Rattle.verdicts.proofs.Judged.{first_is_said}
 use Rattle.verdicts.proofs.Quiet.{apart_sym}
@@ -67,6 +67,15 @@ choosing_more answers n chosen within apart c = record {
 
     new : (q : ℕ) → q < length (chosen ++ (n ∷ [])) → length chosen ≤ q → get_or (chosen ++ (n ∷ [])) q 0 ≡ n
     new q h l = get_or_push chosen n 0 q (omega (arith, h, l, length_push chosen n))
+
+-- An answer was looked at: it is chosen where its word is told apart from all, and left out where it is not.
+pub choosing_next : (answers : List Told) (n : ℕ) (chosen seen next : List ℕ) (r : Option ℕ) → Choosing answers n chosen → n < length answers → seen ≡ chosen → FirstAlike answers seen n r
+    → (r ≡ None → next ≡ chosen ++ (n ∷ [])) → ((q : ℕ) → r ≡ Some q → next ≡ chosen) → Choosing answers (n + 1) next
+choosing_next answers n chosen seen next None c within same apart taken left =
+    subst (Choosing answers (n + 1)) (sym (taken refl)) (choosing_more answers n chosen within (subst (λ z. FirstAlike answers z n None) same apart) c)
+choosing_next answers n chosen seen next (Some q) c within same alike taken left =
+    let a = subst (λ z. FirstAlike answers z n (Some q)) same alike in
+    subst (Choosing answers (n + 1)) (sym (left q refl)) (choosing_left answers n chosen q a.0 a.1 c)
 
 module _ (answers : List Told) (chosen : List ℕ) (c : Choosing answers (length answers) chosen) where
   said : {u v : Word} → ToldApart (FirstSaid answers) u v → ToldApart (Said answers) u v

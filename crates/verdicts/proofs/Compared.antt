@@ -1,34 +1,30 @@
 -- What comparing slices says of words.
-use Rattle.std.proofs.Common.{◌≡◌, ℕ, ◌-◌, ◌<◌, ◌≤◌, min, ◌⊎◌, List, [], ◌∷◌, ◌++◌, length, take, drop, Ordering, Less, Equal, Greater, sym, refl, ap, ◌∙◌, subst, inl, inr, arith, length-take}
-use Rattle.std.specs.Cmp.Lexicographic.{Lex}
-use Rattle.std.specs.Ordering.{MatchOrdering}
+use Rattle.std.proofs.Common.{◌≡◌, ℕ, ◌-◌, ◌<◌, ◌≤◌, min, ◌⊎◌, [], ◌∷◌, ◌++◌, length, take, drop, Ordering, Less, Equal, Greater, sym, refl, ap, ◌∙◌, subst, inl, inr, arith, length-take}
+use Rattle.std.specs.Cmp.{ranks}
+use Rattle.std.specs.Cmp.Lexicographic.{slice_cmp}
+use Rattle.std.specs.Ordering.{MatchOrdering, nat_cmp, ordering_then}
 use Rattle.std.proofs.lemmas.List.{take-append-drop, take_rest, drop_all}
 use Rattle.std.proofs.lemmas.Bool.{cases_lt}
 use Rattle.machines.specs.Words.{Word, Before}
 use Rattle.machines.proofs.Alphabet.{before_behind, before_longer}
 use Rattle.verdicts.specs.Orders.{Compares}
 
-abbrev pub ByNumber : ℕ → ℕ → Ordering → Type 0
-ByNumber a b o = MatchOrdering o (a < b) (a ≡ b) (b < a)
-
-heads : (x y : ℕ) (u v : Word) (o r : Ordering) → ByNumber x y o → MatchOrdering o (r ≡ Less) (Compares u v r) (r ≡ Greater) → Compares (x ∷ u) (y ∷ v) r
-heads x y u v Less r h k = subst (Compares (x ∷ u) (y ∷ v)) (sym k) (inl h)
+heads : (x y : ℕ) (u v : Word) (o r : Ordering) → MatchOrdering o (x < y) (x ≡ y) (y < x) → Compares u v r → Compares (x ∷ u) (y ∷ v) (ordering_then o r)
+heads x y u v Less r h k = inl h
 heads x y u v Equal Less h k = inr (h, k)
 heads x y u v Equal Equal h k = ap (λ (z : ℕ). z ∷ u) h ∙ ap (λ (z : Word). y ∷ z) k
 heads x y u v Equal Greater h k = inr (sym h, k)
-heads x y u v Greater r h k = subst (Compares (x ∷ u) (y ∷ v)) (sym k) (inl h)
+heads x y u v Greater r h k = inl h
 
-ranked : (u v : Word) (r o : Ordering) → (Lex ByNumber u v r → Compares u v r) → MatchOrdering o (r ≡ Less) (Lex ByNumber u v r) (r ≡ Greater) → MatchOrdering o (r ≡ Less) (Compares u v r) (r ≡ Greater)
-ranked u v r Less f k = k
-ranked u v r Equal f k = f k
-ranked u v r Greater f k = k
+ranked_words : (u v : Word) → Compares u v (slice_cmp nat_cmp u v)
+ranked_words [] [] = refl
+ranked_words [] (y ∷ v) = tt
+ranked_words (x ∷ u) [] = tt
+ranked_words (x ∷ u) (y ∷ v) = heads x y u v (nat_cmp x y) (slice_cmp nat_cmp u v) (ranks x y) (ranked_words u v)
 
 -- What the library says of two slices.
-pub lex_compares : (u v : Word) (r : Ordering) → Lex ByNumber u v r → Compares u v r
-lex_compares [] [] r h = subst (Compares [] []) (sym h) refl
-lex_compares [] (y ∷ v) r h = subst (Compares [] (y ∷ v)) (sym h) tt
-lex_compares (x ∷ u) [] r h = subst (Compares (x ∷ u) []) (sym h) tt
-lex_compares (x ∷ u) (y ∷ v) r h = heads x y u v h.0 r h.1 (ranked u v r h.0 (lex_compares u v r) h.2)
+pub lex_compares : (u v : Word) (r : Ordering) → r ≡ slice_cmp nat_cmp u v → Compares u v r
+lex_compares u v r h = subst (Compares u v) (sym h) (ranked_words u v)
 
 -- A word cut where u ends, or not at all if it is shorter.
 pub record Cut (w u front rest : Word) : Type 0 where

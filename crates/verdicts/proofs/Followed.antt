@@ -1,7 +1,7 @@
 -- Words that begin with another, and the best of those that lead to a row.
-use Rattle.std.proofs.Common.{◌≡◌, ℕ, ◌+◌, ◌-◌, ◌<◌, ◌≤◌, ◌⊎◌, List, [], ◌∷◌, ◌++◌, length, get_or, Some, None, Option, sym, refl, ap, ◌∙◌, subst, inl, inr, append-nil, arith}
+use Rattle.std.proofs.Common.{◌≡◌, ℕ, ◌+◌, ◌-◌, ◌<◌, ◌≤◌, ◌⊎◌, List, [], ◌++◌, length, get_or, Some, None, Option, sym, ap, ◌∙◌, subst, inl, inr, append-nil, arith}
 use Rattle.std.proofs.lemmas.Bool.{cases_eq, cases_lt, cases_order}
-use Rattle.machines.specs.Words.{Word, Before, Less}
+use Rattle.machines.specs.Words.{Word, Before}
 use Rattle.machines.specs.Tables.{Table}
 use Rattle.machines.specs.Answers.{Told}
 use Rattle.machines.proofs.Alphabet.{before_irrefl, before_asym, front_first, behind_all}

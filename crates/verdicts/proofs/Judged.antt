@@ -1,10 +1,10 @@
 -- From all that was looked at to a table that is borne out.
-use Rattle.std.proofs.Common.{◌≡◌, ℕ, zero, suc, ◌+◌, ◌*◌, ◌/◌, ◌%◌, ◌<◌, ◌≤◌, ◌⊎◌, List, [], ◌∷◌, ◌++◌, length, get_or, sym, refl, ap, ◌∙◌, subst, inl, inr, arith}
+use Rattle.std.proofs.Common.{◌≡◌, ℕ, zero, suc, ◌+◌, ◌*◌, ◌%◌, ◌<◌, ◌⊎◌, List, [], ◌∷◌, ◌++◌, length, get_or, sym, refl, ap, ◌∙◌, subst, inl, inr, arith}
 use Rattle.std.proofs.lemmas.Nat.{mul-add-lt, div-mul-add, mod-mul-add}
-use Rattle.std.proofs.lemmas.Bool.{cases_eq, cases_lt, cases_order}
+use Rattle.std.proofs.lemmas.Bool.{cases_lt, cases_order}
 use Rattle.machines.specs.Words.{Word, Keys}
-use Rattle.machines.specs.Tables.{Box, next, walk, shows, Same, OfStates}
-use Rattle.machines.specs.Answers.{Told, Said, Single, RightOf, OfKeys, Agrees, ToldApart, AllApart}
+use Rattle.machines.specs.Tables.{next, shows}
+use Rattle.machines.specs.Answers.{Told, Said, Single, OfKeys, Agrees, ToldApart, AllApart}
 use Rattle.machines.specs.Borne.{IsBorneOut, Leads}
 use Rattle.machines.proofs.Alphabet.{before_cases, before_irrefl}
 use Rattle.machines.proofs.Membership.{in-get_or, in_place}

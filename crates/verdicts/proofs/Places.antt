@@ -1,5 +1,5 @@
 -- Numbers of pairs: a row and a column from one number, and back.
-use Rattle.std.proofs.Common.{◌≡◌, ℕ, ◌+◌, ◌*◌, ◌/◌, ◌%◌, ◌<◌, ◌≤◌, List, sym, ap, subst, mod-lt, div-lt_iff_lt-mul, mul-le-mul, arith}
+use Rattle.std.proofs.Common.{◌≡◌, ℕ, ◌+◌, ◌*◌, ◌/◌, ◌%◌, ◌<◌, ◌≤◌, sym, subst, mod-lt, div-lt_iff_lt-mul, mul-le-mul, arith}
 use Rattle.std.proofs.lemmas.Nat.{div-mul-add, mod-mul-add}
 use Rattle.machines.specs.Words.{Word}
 use Rattle.machines.specs.Answers.{ToldApart}

@@ -1,5 +1,5 @@
 -- Answers that tell nothing apart, found by their order.
-use Rattle.std.proofs.Common.{◌≡◌, ℕ, ◌+◌, ◌<◌, ◌≤◌, List, [], ◌∷◌, ◌++◌, length, get_or, drop, sym, refl, ap, ◌∙◌, subst, inl, inr, append-nil, arith}
+use Rattle.std.proofs.Common.{◌≡◌, ℕ, ◌<◌, ◌≤◌, List, [], ◌++◌, length, get_or, drop, sym, refl, ap, ◌∙◌, subst, inl, inr, append-nil, arith}
 use Rattle.std.proofs.lemmas.List.Prefix.{front_rest}
 use Rattle.std.proofs.lemmas.List.{append_cancel_left}
 use Rattle.std.proofs.lemmas.Bool.{cases_eq, cases_order}
@@ -7,7 +7,6 @@ use Rattle.machines.specs.Words.{Word, Before}
 use Rattle.machines.specs.Answers.{Told, ToldApart}
 use Rattle.machines.proofs.Alphabet.{before_asym, before_irrefl, front_first, behind_all}
 use Rattle.answers.specs.declared.apart.Apart.{Apart}
-use Rattle.answers.specs.Evidence.{Evidence}
 use Rattle.verdicts.specs.Orders.{word_at, shown_at, Sorted, Indexed, Placed, StandsAt, FirstAt, FirstSaid, BothFirst}
 
 -- A word stands at one place only.

@@ -1,9 +1,9 @@
 -- What the first number of each listing says of the table.
-use Rattle.std.proofs.Common.{◌≡◌, ℕ, ◌+◌, ◌*◌, ◌/◌, ◌%◌, ◌<◌, ◌≤◌, List, [], length, get_or, Some, None, vec_items, sym, refl, subst, inl, inr, arith}
-use Rattle.std.proofs.lemmas.Bool.{cases_eq, cases_lt}
+use Rattle.std.proofs.Common.{◌≡◌, ℕ, ◌*◌, ◌/◌, ◌%◌, ◌<◌, List, length, Some, None, vec_items, refl, inl, inr, arith}
+use Rattle.std.proofs.lemmas.Bool.{cases_lt}
 use Rattle.machines.specs.Words.{Word}
 use Rattle.machines.specs.Tables.{next}
-use Rattle.machines.specs.Answers.{Told, Said}
+use Rattle.machines.specs.Answers.{Told}
 use Rattle.answers.specs.declared.table.Table.{Table}
 use Rattle.answers.specs.Values.{keys_of, rows_of, cells_of}
 use Rattle.verdicts.specs.declared.report.Report.{Report}

@@ -1,5 +1,5 @@
 -- What must hold for a table to be borne out, thing by thing.
-use Rattle.std.specs.Prelude.{◌≡◌, ℕ, ◌*◌, ◌/◌, ◌%◌, ◌<◌, List, [], ◌∷◌, ◌++◌, length, Some, None, Option, ◌≢◌, slice_index_or}
+use Rattle.std.specs.Prelude.{◌≡◌, ℕ, ◌/◌, ◌%◌, ◌<◌, List, [], ◌∷◌, ◌++◌, length, Some, None, Option, ◌≢◌, slice_index_or}
 use Rattle.machines.specs.Words.{Word, Keys}
 use Rattle.machines.specs.Tables.{Table, next, walk, shows}
 use Rattle.machines.specs.Answers.{Told, ToldApart}

@@ -1,5 +1,5 @@
 -- Told words any two of which are told apart.
-use Rattle.std.specs.Prelude.{◌≡◌, ℕ, ◌<◌, ◌≤◌, List, map, length, Some, None, Option, slice_index}
+use Rattle.std.specs.Prelude.{ℕ, ◌<◌, ◌≤◌, List, map, length, Some, None, Option, slice_index}
 use Rattle.machines.specs.Tables.{Box, OfStates}
 use Rattle.machines.specs.Answers.{Told, Said, RightOf, OfKeys, ToldApart, AllApart}
 use Rattle.verdicts.specs.Orders.{word_at, FirstSaid}

@@ -1,4 +1,6 @@
 // Whether a table is borne out by a log of answers, and what is missing.
+#![tactic(auto)]
+
 mod apart;
 mod checks;
 pub mod choice;

@@ -1,4 +1,6 @@
 // Where words lead by the successors of the rows.
+#![tactic(auto)]
+
 mod along;
 mod ends;
 mod leads;

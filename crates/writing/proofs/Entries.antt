@@ -1,16 +1,16 @@
 -- The entries of the table that is read off.
-use Rattle.std.proofs.Common.{◌≡◌, ℕ, suc, ◌+◌, ◌*◌, ◌/◌, ◌%◌, ◌<◌, ◌≤◌, min, List, ◌++◌, length, get_or, take, drop, set, Option, sym, refl, ap, ◌∙◌, subst, div-add-mod', arith}
+use Rattle.std.proofs.Common.{◌≡◌, ℕ, ◌+◌, ◌*◌, ◌/◌, ◌%◌, ◌<◌, min, List, ◌++◌, length, get_or, take, drop, set, Option, sym, ap, ◌∙◌, subst, div-add-mod', arith}
 use Rattle.std.proofs.lemmas.Nat.{div_below, mod_below}
 use Rattle.areas.specs.Layout.{Dims, Limits}
 use Rattle.machines.specs.Tables.{Table}
-use Rattle.model.specs.Observations.{Observations, rows, edge_of, seen, one_less, table_entry, table_of}
+use Rattle.model.specs.Observations.{rows, edge_of, seen, one_less, table_entry, table_of}
 use Rattle.model.proofs.Hypotheses.{length-table, table_at}
 use Rattle.store.specs.Decoding.{model_of}
 use Rattle.moves.specs.Holding.{Holds}
 use Rattle.moves.specs.Observed.{observed_at, seen_value, SeenIn}
 use Rattle.closing.proofs.Held.{holds_cells_named, rows_few}
 use Rattle.spelling.proofs.Letters.{write_more, write_all}
-use Rattle.writing.specs.Wants.{TableLaid, WrittenTable}
+use Rattle.writing.specs.Wants.{TableLaid}
 
 -- What a row shows is read of its cell.
 pub row_read : (w : List ℕ) (d : Dims) (row edge place : ℕ) (r : Option ℕ) → Limits d → Holds w d → place ≡ 0 → (row < rows (observed_at w d) → edge ≡ edge_of (observed_at w d) row) → SeenIn w d edge 0 r → row < rows (observed_at w d) → one_less (seen_value r) ≡ table_entry d.keys d.most (observed_at w d) (model_of w d).successors row place

@@ -1,25 +1,24 @@
 -- What each phase wants.
-use Rattle.std.proofs.Common.{◌≡◌, ℕ, suc, ◌+◌, ◌*◌, ◌/◌, ◌<◌, ◌≤◌, List, ◌++◌, length, take, drop, sym, refl, ap, ◌∙◌, subst, arith}
+use Rattle.std.proofs.Common.{◌≡◌, ℕ, ◌+◌, ◌*◌, ◌<◌, ◌≤◌, List, length, take, drop, sym, ap, ◌∙◌, subst, arith}
 use Rattle.areas.specs.declared.records.Record.{Record}
 use Rattle.areas.specs.Layout.{Dims}
 use Rattle.machines.specs.Words.{Word}
-use Rattle.model.specs.States.{State, out_words}
-use Rattle.model.specs.Observations.{rows, suffix_word, edge_word, mixed_at, table_of}
-use Rattle.model.specs.Learners.{Phase, Bisection, middle, asks_cell, asks_middle, shows_table, larger, waits_in, asked_in, hypothesis_in}
+use Rattle.model.specs.States.{out_words}
+use Rattle.model.specs.Observations.{rows, mixed_at, table_of}
+use Rattle.model.specs.Learners.{middle, asks_cell, asks_middle, shows_table, waits_in, asked_in, hypothesis_in}
 use Rattle.model.specs.Pages.{cell_entry}
-use Rattle.model.specs.Models.{Model, learner_of, observed_in, view_model}
+use Rattle.model.specs.Models.{learner_of, observed_in, view_model}
 use Rattle.model.proofs.Filling.{phase_at}
 use Rattle.model.proofs.Hypotheses.{length-table}
 use Rattle.model.proofs.Outcomes.{out_fits}
 use Rattle.model.proofs.Spans.{suffixes_long}
 use Rattle.promises.specs.declared.Wanted.{Wanted}
-use Rattle.promises.specs.declared.Wanted.TheVariants.{Ask}
 use Rattle.promises.specs.Outcomes.{WordWritten}
 use Rattle.store.specs.Decoding.{entry_of, page_of, model_of}
 use Rattle.lookup.specs.Named.{Named, named_word}
 use Rattle.moves.specs.declared.phase.Search.{Search}
 use Rattle.moves.specs.Holding.{Holds}
-use Rattle.moves.specs.Observed.{observed_at, page_at}
+use Rattle.moves.specs.Observed.{page_at}
 use Rattle.moves.specs.Phases.{search_value}
 use Rattle.walks.specs.Along.{Mixed}
 use Rattle.filling.proofs.Trying.{cell_named, cell_word_named}

@@ -1,9 +1,8 @@
 -- The word or the table that stands in out.
-use Rattle.std.specs.Prelude.{◌≡◌, ℕ, ◌+◌, ◌*◌, ◌<◌, ◌≤◌, List, length, take, drop, ◌≢◌}
+use Rattle.std.specs.Prelude.{◌≡◌, ℕ, ◌+◌, ◌*◌, ◌≤◌, List, length, take, drop, ◌≢◌}
 use Rattle.areas.specs.declared.records.Record.{Record}
 use Rattle.areas.specs.Layout.{Dims}
 use Rattle.machines.specs.Words.{Word}
-use Rattle.model.specs.States.{out_words}
 use Rattle.model.specs.Observations.{rows, table_of}
 use Rattle.model.specs.Learners.{larger, waits_in}
 use Rattle.model.specs.Models.{Model, learner_of, view_model}

@@ -1,4 +1,6 @@
 // What a settled learner wants is written out: the word that it asks about, or the table that it shows.
+#![tactic(auto)]
+
 mod report;
 mod table;
 mod words;

@@ -24,9 +24,9 @@ returns c =
     record {
       begins = model_begins;
       asks_cell = model_asks_cell;
-      hears-cell = model_hears_cell;
-      fills-cell = model_fills_cell;
-      adds-row = model_adds_row;
+      hears_cell = model_hears_cell;
+      fills_cell = model_fills_cell;
+      adds_row = model_adds_row;
       too_many = model_too_many;
       successors = model_sets_successors;
       shows = model_shows;
@@ -34,8 +34,8 @@ returns c =
       anew = model_refutes_anew;
       told = model_refutes_told;
       asks_middle = model_asks_middle;
-      hears-middle = model_hears_middle;
+      hears_middle = model_hears_middle;
       narrows = model_narrows;
       ends = model_ends_bisection;
-      ends-many = model_ends_many;
+      ends_many = model_ends_many;
     }

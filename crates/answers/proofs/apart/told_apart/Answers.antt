@@ -1,4 +1,4 @@
-use Rattle.std.proofs.Common.{◌≡◌, ℕ, ◌<◌, Bool, true, false, length, get_or, Decides, sym, refl, ap, subst, arith, below_more, MatchOption}
+use Rattle.std.proofs.Common.{get_or, sym, refl, subst, arith, below_more, MatchOption}
 use Rattle.std.proofs.lemmas.Bool.Decides.{not_from_Decides}
 use Rattle.machines.specs.Answers.{Said, ToldApart}
 use Rattle.answers.specs.Logs.{told, ApartBy, no_answer}

@@ -5,14 +5,14 @@ use Rattle.areas.proofs.Inside.{area_within, rewritten_same}
 use Rattle.areas.proofs.Middle.{cleared_at, zeros_none}
 use Rattle.areas.proofs.bulk.clear.Goals as goal
 
-pub overflow-add-base : goal.overflow-add-base
-overflow-add-base c = omega (arith, area_within c.args.store.now (dims c.args.shape) c.args.area _ _ c.base-base.ensures c.reach-reach.ensures (omega arith))
+pub overflow_add-base : goal.overflow_add-base
+overflow_add-base c = omega (arith, area_within c.args.store.now (dims c.args.shape) c.args.area _ _ c.base-base.ensures c.reach-reach.ensures (omega arith))
 
-pub offset-bounds-store-base : goal.offset-bounds-store-base
-offset-bounds-store-base c = omega (arith, area_within c.args.store.now (dims c.args.shape) c.args.area _ _ c.base-base.ensures c.reach-reach.ensures (omega arith))
+pub offset_bounds-store-base : goal.offset_bounds-store-base
+offset_bounds-store-base c = omega (arith, area_within c.args.store.now (dims c.args.shape) c.args.area _ _ c.base-base.ensures c.reach-reach.ensures (omega arith))
 
-pub slice-bounds-zero-end : goal.slice-bounds-zero-end
-slice-bounds-zero-end c = omega (arith, area_within c.args.store.now (dims c.args.shape) c.args.area _ _ c.base-base.ensures c.reach-reach.ensures (omega arith))
+pub slice_bounds-zero-end : goal.slice_bounds-zero-end
+slice_bounds-zero-end c = omega (arith, area_within c.args.store.now (dims c.args.shape) c.args.area _ _ c.base-base.ensures c.reach-reach.ensures (omega arith))
 
 pub returns-then-reach-gt0 : goal.returns-then-reach-gt0
 returns-then-reach-gt0 c =

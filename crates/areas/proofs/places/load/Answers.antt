@@ -5,8 +5,8 @@ use Rattle.areas.proofs.Bases.{limits_of, ends_within}
 use Rattle.areas.proofs.Inside.{get_or-area, get_or-area_past}
 use Rattle.areas.proofs.places.load.Goals as goal
 
-pub overflow-add-base : goal.overflow-add-base
-overflow-add-base c = omega (arith, ends_within (dims c.args.shape) c.args.area (limits_of c.args.shape), c.size.ensures, c.base.ensures)
+pub overflow_add-base : goal.overflow_add-base
+overflow_add-base c = omega (arith, ends_within (dims c.args.shape) c.args.area (limits_of c.args.shape), c.size.ensures, c.base.ensures)
 
 pub returns-then-i-size : goal.returns-then-i-size
 returns-then-i-size c =

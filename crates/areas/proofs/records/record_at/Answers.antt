@@ -13,4 +13,4 @@ returns-then-i-answers c =
 
 pub returns : goal.returns
 unfolding record_from
-returns c = record_same _ (record_in (area_of c.args.store.now (dims c.args.shape) Answers) c.args.i) c.load.ensures c.load-2.ensures c.load-wide.ensures c.load-wide-2.ensures c.load-3.ensures
+returns c = record_same _ (record_in (area_of c.args.store.now (dims c.args.shape) Answers) c.args.i) c.load.ensures c.load-2.ensures c.load_wide.ensures c.load_wide-2.ensures c.load-3.ensures

@@ -10,8 +10,8 @@ use Rattle.areas.proofs.records.save_record.Goals as goal
 pub returns-then-i-answers : goal.returns-then-i-answers
 returns-then-i-answers c =
     record_saved c.args.store.now _ (dims c.args.shape) c.args.i c.args.answer (limits_of c.args.shape)
-    (record_written c.args.store.now c.save.new.store c.save-then-i-answers.new.store c.save-wide.new.store c.save-wide-then-i-answers.new.store _ (dims c.args.shape) c.args.i c.args.answer
-    c.save.ensures c.save-then-i-answers.ensures c.save-wide.ensures c.save-wide-then-i-answers.ensures c.save-then-i-answers-2.ensures)
+    (record_written c.args.store.now c.save.new.store c.save-then-i-answers.new.store c.save_wide.new.store c.save_wide-then-i-answers.new.store _ (dims c.args.shape) c.args.i c.args.answer
+    c.save.ensures c.save-then-i-answers.ensures c.save_wide.ensures c.save_wide-then-i-answers.ensures c.save-then-i-answers-2.ensures)
 
 pub returns-else-i-answers : goal.returns-else-i-answers
 returns-else-i-answers c =

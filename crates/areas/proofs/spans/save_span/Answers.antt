@@ -10,7 +10,7 @@ use Rattle.areas.proofs.spans.save_span.Goals as goal
 pub returns-then-i-most : goal.returns-then-i-most
 returns-then-i-most c =
     span_saved c.args.store.now _ (dims c.args.shape) c.args.i c.args.span (limits_of c.args.shape)
-    (span_written c.args.store.now c.save-wide.new.store _ (dims c.args.shape) c.args.i c.args.span c.save-wide.ensures c.save-wide-then-i-most.ensures)
+    (span_written c.args.store.now c.save_wide.new.store _ (dims c.args.shape) c.args.i c.args.span c.save_wide.ensures c.save_wide-then-i-most.ensures)
 
 pub returns-else-i-most : goal.returns-else-i-most
 returns-else-i-most c =

@@ -13,4 +13,4 @@ returns-then-i-most c =
 
 pub returns : goal.returns
 unfolding span_in
-returns c = span_same _ (span_in (area_of c.args.store.now (dims c.args.shape) Suffixes) c.args.i) c.load-wide.ensures c.load-wide-2.ensures
+returns c = span_same _ (span_in (area_of c.args.store.now (dims c.args.shape) Suffixes) c.args.i) c.load_wide.ensures c.load_wide-2.ensures

@@ -3,7 +3,7 @@ use Rattle.std.proofs.Common.{◌≡◌, ℕ, ◌<◌}
 use Rattle.areas.specs.Shapes.{dims}
 use Rattle.model.specs.Observations.{seen}
 use Rattle.moves.specs.Observed.{observed_at}
-use Rattle.closing.specs.Alike.{CellsNamed}
+use Rattle.closing.specs.Missing.{CellsNamed}
 use Rattle.closing.proofs.likeness.differ.Given as goal
 
 abbrev pub invariant-loop-suffix : goal.invariant-loop-suffix

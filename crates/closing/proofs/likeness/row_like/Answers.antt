@@ -4,15 +4,15 @@ use Rattle.std.proofs.lemmas.Bool.{cases_order}
 use Rattle.areas.specs.Shapes.{dims}
 use Rattle.model.specs.Observations.{edge_of}
 use Rattle.moves.specs.Observed.{observed_at}
-use Rattle.closing.specs.Alike.{DifferAt}
+use Rattle.closing.specs.Missing.{DifferAt}
 use Rattle.closing.proofs.Differing.{some_differs}
 use Rattle.closing.proofs.likeness.row_like.Goals as goal
 
 pub loop-j-preserved : goal.loop-j-preserved
 loop-j-preserved c named j h =
     ⊎_elim (λ (q : j ≡ c.loop-j.j).
-    let edge = c.edge-of.ensures (omega (arith, c.rows-j-end.ensures.count)) in
-    let found = some_differs c.args.store.now (dims c.args.shape) c.args.edge.0 c.edge-of.result.0 c.differ.result (c.is-none.ensures ∙ ap not c.if-is-none.false) c.differ.ensures named in
+    let edge = c.edge_of.ensures (omega (arith, c.rows-j-end.ensures.count)) in
+    let found = some_differs c.args.store.now (dims c.args.shape) c.args.edge.0 c.edge_of.result.0 c.differ.result (c.is_none.ensures ∙ ap not c.if-is_none.false) c.differ.ensures named in
     subst (λ (z : ℕ). (e : ℕ) × DifferAt c.args.store.now (dims c.args.shape) c.args.edge.0 z e) (edge ∙ ap (edge_of (observed_at c.args.store.now (dims c.args.shape))) (sym q)) found)
     (⊎_elim (λ (q : j < c.loop-j.j). c.loop-j.invariant named j q) (λ (q : c.loop-j.j < j). absurd (omega (arith, h, q))))
     (cases_order j c.loop-j.j)

@@ -3,7 +3,7 @@ use Rattle.std.proofs.Common.{ℕ, ◌<◌}
 use Rattle.areas.specs.Shapes.{dims}
 use Rattle.model.specs.Observations.{edge_of}
 use Rattle.moves.specs.Observed.{observed_at}
-use Rattle.closing.specs.Alike.{CellsNamed, DifferAt}
+use Rattle.closing.specs.Missing.{CellsNamed, DifferAt}
 use Rattle.closing.proofs.likeness.row_like.Given as goal
 
 abbrev pub invariant-loop-j : goal.invariant-loop-j

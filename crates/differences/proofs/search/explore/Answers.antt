@@ -15,5 +15,5 @@ returns c = found_none c.args.one.now c.args.other.now c.loop-at.search c.loop-a
 pub returns-in-Some : goal.returns-in-Some
 returns-in-Some c =
     let one = c.args.one.now in
-    let ends = rw c.in-Some.is at c.in-ok-key.ensures in
-    subst (FirstDifference (keys_of one) (cells_of one) (cells_of c.args.other.now)) (sym (c.in-ok-word-to.ensures ends.1.0 ends.1.1)) ends.1.2
+    let ends = rw c.in-Some.is at c.in_ok-key.ensures in
+    subst (FirstDifference (keys_of one) (cells_of one) (cells_of c.args.other.now)) (sym (c.in_ok-word_to.ensures ends.1.0 ends.1.1)) ends.1.2

@@ -9,18 +9,18 @@ use Rattle.filling.proofs.table.fill.Goals as goal
 pub loop-u-init : goal.loop-u-init
 loop-u-init c f = (fills_none c.args.store.now (dims c.args.shape) f, λ v e h l. absurd (omega arith))
 
-pub returns-then-not-fill-edge : goal.returns-then-not-fill-edge
-returns-then-not-fill-edge c f =
+pub returns-then-not-fill_edge : goal.returns-then-not-fill_edge
+returns-then-not-fill_edge c f =
     let s = (c.loop-u.invariant f).0 in
     let all = edges_counted c.args.store.now (dims c.args.shape) c.keys.result c.min-rows.result c.rows.result c.most.result f.holds c.keys.ensures c.min-rows.ensures c.rows.ensures.count c.most.ensures in
-    settles_after s.turned (c.if-not-fill-edge.ensures (still_filling f s) (edge_still c.loop-u.u s (omega (arith, all))))
+    settles_after s.turned (c.if-not-fill_edge.ensures (still_filling f s) (edge_still c.loop-u.u s (omega (arith, all))))
 
 pub loop-u-preserved : goal.loop-u-preserved
 loop-u-preserved c f =
     let inv = c.loop-u.invariant f in
     let all = edges_counted c.args.store.now (dims c.args.shape) c.keys.result c.min-rows.result c.rows.result c.most.result f.holds c.keys.ensures c.min-rows.ensures c.rows.ensures.count c.most.ensures in
-    edges_more c.args.store.now c.loop-u.store c.fill-edge.new.store (dims c.args.shape) c.loop-u.u inv.0 inv.1
-    (c.if-not-fill-edge.ensures (still_filling f inv.0) (edge_still c.loop-u.u inv.0 (omega (arith, all))))
+    edges_more c.args.store.now c.loop-u.store c.fill_edge.new.store (dims c.args.shape) c.loop-u.u inv.0 inv.1
+    (c.if-not-fill_edge.ensures (still_filling f inv.0) (edge_still c.loop-u.u inv.0 (omega (arith, all))))
 
 pub returns : goal.returns
 returns c f =

@@ -6,7 +6,7 @@ use Rattle.formats.proofs.rows.last_word.Goals as goal
 
 pub loop-token-preserved : goal.loop-token-preserved
 loop-token-preserved c =
-    ap (λ w. word_on w (drop (c.loop-token.token-index + 1) c.args.tokens.now)) c.in-ok-push.ensures.items
+    ap (λ w. word_on w (drop (c.loop-token.token-index + 1) c.args.tokens.now)) c.in_ok-push-in-Number.ensures.items
     ∙ sym (at_token _ _ c.loop-token-test.true (word_on (vec_items c.loop-token.word)) _ c.in-Number.is)
     ∙ c.loop-token.invariant
 

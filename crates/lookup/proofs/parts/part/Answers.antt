@@ -8,20 +8,20 @@ use Rattle.lookup.proofs.parts.part.Goals as goal
 pub returns-then-from-reach : goal.returns-then-from-reach
 returns-then-from-reach c = part_past c.args.store.now (dims c.args.shape) c.args.area c.args.from c.args.size (omega (arith, c.reach-reach.ensures))
 
-pub overflow-add-result : goal.overflow-add-result
-overflow-add-result c = omega (arith, area_within c.args.store.now (dims c.args.shape) c.args.area _ _ c.base-base.ensures c.reach-reach.ensures (omega arith))
+pub overflow_add-result : goal.overflow_add-result
+overflow_add-result c = omega (arith, area_within c.args.store.now (dims c.args.shape) c.args.area _ _ c.base-base.ensures c.reach-reach.ensures (omega arith))
 
-pub overflow-add-result-2 : goal.overflow-add-result-2
-overflow-add-result-2 c = omega (arith, area_within c.args.store.now (dims c.args.shape) c.args.area _ _ c.base-base.ensures c.reach-reach.ensures (omega arith))
+pub overflow_add-result-2 : goal.overflow_add-result-2
+overflow_add-result-2 c = omega (arith, area_within c.args.store.now (dims c.args.shape) c.args.area _ _ c.base-base.ensures c.reach-reach.ensures (omega arith))
 
-pub overflow-add-result-3 : goal.overflow-add-result-3
-overflow-add-result-3 c = omega (arith, area_within c.args.store.now (dims c.args.shape) c.args.area _ _ c.base-base.ensures c.reach-reach.ensures (omega arith))
+pub overflow_add-result-3 : goal.overflow_add-result-3
+overflow_add-result-3 c = omega (arith, area_within c.args.store.now (dims c.args.shape) c.args.area _ _ c.base-base.ensures c.reach-reach.ensures (omega arith))
 
-pub offset-bounds-store-base : goal.offset-bounds-store-base
-offset-bounds-store-base c = omega (arith, area_within c.args.store.now (dims c.args.shape) c.args.area _ _ c.base-base.ensures c.reach-reach.ensures (omega arith))
+pub offset_bounds-store-base : goal.offset_bounds-store-base
+offset_bounds-store-base c = omega (arith, area_within c.args.store.now (dims c.args.shape) c.args.area _ _ c.base-base.ensures c.reach-reach.ensures (omega arith))
 
-pub slice-bounds-result-end-2 : goal.slice-bounds-result-end-2
-slice-bounds-result-end-2 c = omega (arith, area_within c.args.store.now (dims c.args.shape) c.args.area _ _ c.base-base.ensures c.reach-reach.ensures (omega arith))
+pub slice_bounds-result-end-2 : goal.slice_bounds-result-end-2
+slice_bounds-result-end-2 c = omega (arith, area_within c.args.store.now (dims c.args.shape) c.args.area _ _ c.base-base.ensures c.reach-reach.ensures (omega arith))
 
 pub returns : goal.returns
 returns c =

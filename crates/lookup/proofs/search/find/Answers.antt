@@ -16,12 +16,12 @@ loop-c-init c all i h e = omega arith
 pub returns-then-same : goal.returns-then-same
 returns-then-same c all = (
   omega (arith, answers_counted c.args.store.now (dims c.args.shape), c.load-count.ensures),
-  sym (answer_spelt c.args.store.now (dims c.args.shape) c.loop-c.c _ _ all (omega (arith, c.load-count.ensures)) c.record-at-answer.ensures c.spell.ensures) ∙ c.same.ensures.0 c.if-same.true,
+  sym (answer_spelt c.args.store.now (dims c.args.shape) c.loop-c.c _ _ all (omega (arith, c.load-count.ensures)) c.record_at-answer.ensures c.spell.ensures) ∙ c.same.ensures.0 c.if-same.true,
 )
 
 pub loop-c-preserved : goal.loop-c-preserved
 loop-c-preserved c all i h e =
-    let spelled = answer_spelt c.args.store.now (dims c.args.shape) c.loop-c.c _ _ all (omega (arith, c.load-count.ensures)) c.record-at-answer.ensures c.spell.ensures in
+    let spelled = answer_spelt c.args.store.now (dims c.args.shape) c.loop-c.c _ _ all (omega (arith, c.load-count.ensures)) c.record_at-answer.ensures c.spell.ensures in
     ⊎_elim
     (λ (q : i ≡ c.loop-c.c). not_from_Decides _ c.same.ensures c.if-same.false
     (spelled ∙ subst (λ (z : ℕ). word_at (observations_of (page_of c.args.store.now (dims c.args.shape))) z ≡ spelt c.args.word) q e))

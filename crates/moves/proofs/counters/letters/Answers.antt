@@ -6,6 +6,6 @@ use Rattle.moves.proofs.counters.letters.Goals as goal
 
 pub returns : goal.returns
 returns c = record {
-  word = c.load-wide.ensures;
-  count = λ e f. c.load-wide.ensures ∙ sym (letters_read c.args.store.now (dims c.args.shape) (limits_of c.args.shape) e f);
+  word = c.load_wide.ensures;
+  count = λ e f. c.load_wide.ensures ∙ sym (letters_read c.args.store.now (dims c.args.shape) (limits_of c.args.shape) e f);
 }

@@ -24,8 +24,8 @@ returns-in-Larger c =
 
 pub returns-in-Bisecting : goal.returns-in-Bisecting
 returns-in-Bisecting c =
-    λ e. enters_search c.args.store.now c.put-search.new.store _ (dims c.args.shape) 3 c.in-Bisecting.search _ (limits_of c.args.shape) e (λ a b. ap phase_value (sym c.in-Bisecting.is)) c.put-search.ensures c.save-in-Bisecting.ensures
+    λ e. enters_search c.args.store.now c.put_search.new.store _ (dims c.args.shape) 3 c.in-Bisecting.search _ (limits_of c.args.shape) e (λ a b. ap phase_value (sym c.in-Bisecting.is)) c.put_search.ensures c.save-in-Bisecting.ensures
 
 pub returns-in-AsksMiddle : goal.returns-in-AsksMiddle
 returns-in-AsksMiddle c =
-    λ e. enters_search c.args.store.now c.put-search-in-AsksMiddle.new.store _ (dims c.args.shape) 4 c.in-AsksMiddle.search _ (limits_of c.args.shape) e (λ a b. ap phase_value (sym c.in-AsksMiddle.is)) c.put-search-in-AsksMiddle.ensures c.save-in-AsksMiddle.ensures
+    λ e. enters_search c.args.store.now c.put_search-in-AsksMiddle.new.store _ (dims c.args.shape) 4 c.in-AsksMiddle.search _ (limits_of c.args.shape) e (λ a b. ap phase_value (sym c.in-AsksMiddle.is)) c.put_search-in-AsksMiddle.ensures c.save-in-AsksMiddle.ensures

@@ -14,13 +14,13 @@ pub returns-in-2 : goal.returns-in-2
 returns-in-2 c = phase_from c.args.store.now (dims c.args.shape) 2 _ (sym c.in-2.is ∙ c.load.ensures) refl
 
 pub returns-in-3 : goal.returns-in-3
-returns-in-3 c = phase_from c.args.store.now (dims c.args.shape) 3 _ (sym c.in-3.is ∙ c.load.ensures) (ap bisecting c.search-of.ensures)
+returns-in-3 c = phase_from c.args.store.now (dims c.args.shape) 3 _ (sym c.in-3.is ∙ c.load.ensures) (ap bisecting c.search_of.ensures)
 
 pub returns-in-4 : goal.returns-in-4
-returns-in-4 c = phase_from c.args.store.now (dims c.args.shape) 4 _ (sym c.in-4.is ∙ c.load.ensures) (ap asks_middle c.search-of-in-4.ensures)
+returns-in-4 c = phase_from c.args.store.now (dims c.args.shape) 4 _ (sym c.in-4.is ∙ c.load.ensures) (ap asks_middle c.search_of-in-4.ensures)
 
 pub returns-in-5 : goal.returns-in-5
 returns-in-5 c = phase_from c.args.store.now (dims c.args.shape) 5 _ (sym c.in-5.is ∙ c.load.ensures) (ap larger c.load-first.ensures)
 
-pub returns-in-default : goal.returns-in-default
-returns-in-default c = phase_from c.args.store.now (dims c.args.shape) c.load.result _ c.load.ensures (sym (phase_past c.load.result _ _ _ (omega arith)))
+pub returns-in_default : goal.returns-in_default
+returns-in_default c = phase_from c.args.store.now (dims c.args.shape) c.load.result _ c.load.ensures (sym (phase_past c.load.result _ _ _ (omega arith)))

@@ -10,14 +10,14 @@ pub returns-then-size-out : goal.returns-then-size-out
 returns-then-size-out c = record {
   within = omega arith;
   written =
-      edge_not_short c.args.store.now (dims c.args.shape) c.args.edge.0 (c.args.edge.0 - 1) c.write-access-size.new.out c.write-access-size.result (limits_of c.args.shape) (omega arith) (omega arith)
-      (subst (λ (z : ℕ). AccessWritten c.args.store.now (dims c.args.shape) ((c.args.edge.0 - 1) / z) c.write-access-size.new.out c.write-access-size.result) c.keys.ensures c.write-access-size.ensures.written);
+      edge_not_short c.args.store.now (dims c.args.shape) c.args.edge.0 (c.args.edge.0 - 1) c.write_access-size.new.out c.write_access-size.result (limits_of c.args.shape) (omega arith) (omega arith)
+      (subst (λ (z : ℕ). AccessWritten c.args.store.now (dims c.args.shape) ((c.args.edge.0 - 1) / z) c.write_access-size.new.out c.write_access-size.result) c.keys.ensures c.write_access-size.ensures.written);
 }
 
 pub returns : goal.returns
 returns c = record {
   within = simp length-set (omega arith);
   written =
-      edge_written c.args.store.now (dims c.args.shape) c.args.edge.0 (c.args.edge.0 - 1) _ c.write-access-size.new.out c.write-access-size.result (limits_of c.args.shape) (omega arith) (ap (λ (z : ℕ). (c.args.edge.0 - 1) % z) c.keys-2.ensures) (omega arith)
-      (subst (λ (z : ℕ). AccessWritten c.args.store.now (dims c.args.shape) ((c.args.edge.0 - 1) / z) c.write-access-size.new.out c.write-access-size.result) c.keys.ensures c.write-access-size.ensures.written);
+      edge_written c.args.store.now (dims c.args.shape) c.args.edge.0 (c.args.edge.0 - 1) _ c.write_access-size.new.out c.write_access-size.result (limits_of c.args.shape) (omega arith) (ap (λ (z : ℕ). (c.args.edge.0 - 1) % z) c.keys-2.ensures) (omega arith)
+      (subst (λ (z : ℕ). AccessWritten c.args.store.now (dims c.args.shape) ((c.args.edge.0 - 1) / z) c.write_access-size.new.out c.write_access-size.result) c.keys.ensures c.write_access-size.ensures.written);
 }

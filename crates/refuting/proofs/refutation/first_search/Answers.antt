@@ -12,6 +12,6 @@ returns c s a =
     let w = c.args.store.now in
     let d = dims c.args.shape in
     let inside = row_after_in w d c.args.word.now s in
-    let edge = c.edge-of-edge.ensures (omega (arith, inside, c.row-after.ensures)) ∙ ap (edge_of (observed_at w d)) c.row-after.ensures in
+    let edge = c.edge_of-edge.ensures (omega (arith, inside, c.row_after.ensures)) ∙ ap (edge_of (observed_at w d)) c.row_after.ensures in
     let read = c.cell.ensures ∙ ap (λ (z : ℕ). cell_at d.most (observed_at w d) z 0) edge in
-    search_begun w d c.args.word.now c.answers-number.result c.saturating-sub.result s c.answers-number.ensures.count (c.saturating-sub.ensures ∙ ap (λ (z : ℕ). z - 1) read) a
+    search_begun w d c.args.word.now c.answers-number.result c.saturating_sub.result s c.answers-number.ensures.count (c.saturating_sub.ensures ∙ ap (λ (z : ℕ). z - 1) read) a

@@ -3,8 +3,8 @@ use Rattle.std.proofs.Common.{arith}
 use Rattle.store.proofs.Fresh.{few_cells}
 use Rattle.refuting.proofs.room.has_room.Goals as goal
 
-pub overflow-mul-least-3 : goal.overflow-mul-least-3
-overflow-mul-least-3 c = omega (arith, few_cells c.keys-keys.result c.most-most.result (omega (arith, c.keys-keys.ensures)) (omega (arith, c.most-most.ensures)))
+pub overflow_mul-least-3 : goal.overflow_mul-least-3
+overflow_mul-least-3 c = omega (arith, few_cells c.keys-keys.result c.most-most.result (omega (arith, c.keys-keys.ensures)) (omega (arith, c.most-most.ensures)))
 
-pub overflow-add-least-3 : goal.overflow-add-least-3
-overflow-add-least-3 c = omega (arith, few_cells c.keys-keys.result c.most-most.result (omega (arith, c.keys-keys.ensures)) (omega (arith, c.most-most.ensures)))
+pub overflow_add-least-3 : goal.overflow_add-least-3
+overflow_add-least-3 c = omega (arith, few_cells c.keys-keys.result c.most-most.result (omega (arith, c.keys-keys.ensures)) (omega (arith, c.most-most.ensures)))

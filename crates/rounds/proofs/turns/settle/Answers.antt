@@ -28,7 +28,7 @@ pub loop-turn-preserved : goal.loop-turn-preserved
 loop-turn-preserved c = (
   λ h u.
       let s = c.loop-turn.invariant.0 h u in
-      one_more c.args.store.now c.loop-turn.store c.round.new.store (dims c.args.shape) c.loop-turn.-turn s (c.if-not-round.ensures.moved (turned_holds h s.turned) s.going),
+      one_more c.args.store.now c.loop-turn.store c.round.new.store (dims c.args.shape) c.loop-turn._turn s (c.if-not-round.ensures.moved (turned_holds h s.turned) s.going),
   λ n.
       let same = c.loop-turn.invariant.1 n in
       absurd (true≢false (sym c.if-not-round.false ∙ (c.round.ensures.kept (λ u. n (subst (λ (w : List ℕ). Unsettled (model_of w (dims c.args.shape)).phase) same u))).1)),
@@ -36,6 +36,6 @@ loop-turn-preserved c = (
 
 pub returns : goal.returns
 returns c = record {
-  moved = λ h u. absurd (no_more c.args.store.now c.loop-turn.store (dims c.args.shape) c.loop-turn.-turn h (c.loop-turn.invariant.0 h u) (omega (arith, c.most-turn-end.ensures)));
+  moved = λ h u. absurd (no_more c.args.store.now c.loop-turn.store (dims c.args.shape) c.loop-turn._turn h (c.loop-turn.invariant.0 h u) (omega (arith, c.most-turn-end.ensures)));
   kept = λ n. c.loop-turn.invariant.1 n;
 }

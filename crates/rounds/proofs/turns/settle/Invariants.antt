@@ -9,5 +9,5 @@ use Rattle.rounds.proofs.turns.settle.Given as goal
 
 abbrev pub invariant-loop-turn : goal.invariant-loop-turn
 invariant-loop-turn l =
-    (Holds l.initial.store (dims l.shape) → Unsettled (model_of l.initial.store (dims l.shape)).phase → SoFar l.initial.store l.store (dims l.shape) l.-turn)
+    (Holds l.initial.store (dims l.shape) → Unsettled (model_of l.initial.store (dims l.shape)).phase → SoFar l.initial.store l.store (dims l.shape) l._turn)
     × ((Unsettled (model_of l.initial.store (dims l.shape)).phase → ⊥) → l.store ≡ l.initial.store)

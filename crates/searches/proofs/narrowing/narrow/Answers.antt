@@ -7,10 +7,10 @@ use Rattle.searches.proofs.narrowing.narrow.Goals as goal
 pub loop-shape-init : goal.loop-shape-init
 loop-shape-init c held p = searching c.args.store.now (dims c.args.shape) c.args.search held p
 
-pub returns-in-default : goal.returns-in-default
-returns-in-default c held p =
+pub returns-in_default : goal.returns-in_default
+returns-in_default c held p =
     let so_far = c.loop-shape.invariant held p in
-    record { valid = so_far.valid; asks = record { wide = omega arith; unasked = c.in-default.ensures so_far (omega arith) } }
+    record { valid = so_far.valid; asks = record { wide = omega arith; unasked = c.in_default.ensures so_far (omega arith) } }
 
 pub loop-shape-smaller : goal.loop-shape-smaller
 loop-shape-smaller c = c.half-search.ensures.shorter (omega arith)

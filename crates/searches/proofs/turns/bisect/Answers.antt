@@ -14,4 +14,4 @@ returns-then-rows-most c held p = grown c.args.store.now _ (dims c.args.shape) (
 pub returns-else-rows-most : goal.returns-else-rows-most
 returns-else-rows-most c held p =
     let ended = c.in-Found.ensures held p in
-    found_many c.args.store.now _ (dims c.args.shape) (search_value c.args.search) c.in-Found.place held p c.last-edge-edge.result.0 ended (omega (arith, c.rows.ensures.count, c.most.ensures)) (c.last-edge-edge.ensures (record { held = held; valid = ended.valid })) c.enter-else-rows-most.ensures
+    found_many c.args.store.now _ (dims c.args.shape) (search_value c.args.search) c.in-Found.place held p c.last_edge-edge.result.0 ended (omega (arith, c.rows.ensures.count, c.most.ensures)) (c.last_edge-edge.ensures (record { held = held; valid = ended.valid })) c.enter-else-rows-most.ensures

@@ -1,4 +1,4 @@
-use Rattle.std.proofs.Common.{◌≡◌, length, arith}
+use Rattle.std.proofs.Common.{arith}
 use Rattle.spelling.specs.Spelt.{spelt}
 use Rattle.spelling.proofs.Letters.{write_more, write_all}
 use Rattle.spelling.proofs.Spelling.write.Goals as goal

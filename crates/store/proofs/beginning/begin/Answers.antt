@@ -1,13 +1,12 @@
-use Rattle.std.proofs.Common.{◌≡◌, ℕ, List, length, sym, refl, ap, ◌∙◌, subst, inl, inr, arith}
+use Rattle.std.proofs.Common.{◌≡◌, ℕ, List, length, sym, ap, ◌∙◌, subst, inl, inr, arith}
 use mathlib.Core.Option.{some}
 use Rattle.areas.specs.Layout.{Dims, Limits}
 use Rattle.areas.specs.Shapes.{dims}
 use Rattle.areas.proofs.Sums.{layout_fits}
 use Rattle.model.specs.States.{fresh}
 use Rattle.promises.specs.declared.Began.{Began}
-use Rattle.promises.specs.Promises.{Unfit, BeganPost}
+use Rattle.promises.specs.Promises.{Unfit}
 use Rattle.store.specs.Begun.{Fit}
-use Rattle.store.specs.Reading.{state_of}
 use Rattle.store.proofs.Doors.{laid_out_state}
 use Rattle.store.proofs.beginning.begin.Goals as goal
 
@@ -21,18 +20,18 @@ fit_or_not k n room w f (inr (inr (inr (inr h)))) = omega (arith, f.long, h)
 never : Began.Ready ≡ Began.Few → ⊥
 never e = let z : ◌≡◌ {A = ℕ} 0 1 = cc in omega arith
 
-pub returns-in-default : goal.returns-in-default
-returns-in-default c =
-    let f = c.if-not-is-fit.ensures in
-    absurd (c.in-default.ensures (layout_fits.limits c.args.keys c.args.most c.args.room (length c.args.store.now) f.some_keys f.few_keys f.some_states f.few_states (omega (arith, f.long))))
+pub returns-in_default : goal.returns-in_default
+returns-in_default c =
+    let f = c.if-not-is_fit.ensures in
+    absurd (c.in_default.ensures (layout_fits.limits c.args.keys c.args.most c.args.room (length c.args.store.now) f.some_keys f.few_keys f.some_states f.few_states (omega (arith, f.long))))
 
 pub returns : goal.returns
 returns c =
-    let f = c.if-not-is-fit.ensures in
+    let f = c.if-not-is_fit.ensures in
     let w = c.args.store.now in
     let shaped = c.in-Some.ensures in
     let long : length w ≡ (dims c.in-Some.shape).length = sym (ap (λ (d : Dims). d.length) shaped.1) in
-    let state = laid_out_state w c.lay-out.new.store (dims c.in-Some.shape) (subst Limits (sym shaped.1) shaped.0) long (c.lay-out.ensures long) in
+    let state = laid_out_state w c.lay_out.new.store (dims c.in-Some.shape) (subst Limits (sym shaped.1) shaped.0) long (c.lay_out.ensures long) in
     record {
       ready = λ _. state ∙ ap (λ (d : Dims). some (fresh d.keys d.most)) shaped.1;
       few = (λ u. absurd (fit_or_not c.args.keys c.args.most c.args.room w f u), λ e. absurd (never e));

@@ -1,4 +1,4 @@
-use Rattle.std.proofs.Common.{◌≡◌, ℕ, List, Some, sym, ◌∙◌, subst}
+use Rattle.std.proofs.Common.{ℕ, List, Some, sym, ◌∙◌, subst}
 use Rattle.machines.specs.Words.{Word}
 use Rattle.machines.specs.Tables.{Table}
 use Rattle.machines.specs.Answers.{Told}
@@ -20,9 +20,9 @@ pub returns-in-Some : goal.returns-in-Some
 returns-in-Some c =
     let t = c.args.table.now in
     let answers = told c.args.answers.now in
-    never_decides (λ h. unfit (keys_of t) (cells_of t) answers c.args.i c.row-word.result.now c.in-Some.field-0 c.in-Some.ensures (subst (Fit (keys_of t) (cells_of t) answers c.args.i) (sym c.row-word.ensures) h))
+    never_decides (λ h. unfit (keys_of t) (cells_of t) answers c.args.i c.row_word.result.now c.in-Some.field-0 c.in-Some.ensures (subst (Fit (keys_of t) (cells_of t) answers c.args.i) (sym c.row_word.ensures) h))
 
 pub returns-in-None : goal.returns-in-None
 returns-in-None c =
     let t = c.args.table.now in
-    holds_decides (subst (Fit (keys_of t) (cells_of t) (told c.args.answers.now) c.args.i) c.row-word.ensures c.in-None.ensures)
+    holds_decides (subst (Fit (keys_of t) (cells_of t) (told c.args.answers.now) c.args.i) c.row_word.ensures c.in-None.ensures)

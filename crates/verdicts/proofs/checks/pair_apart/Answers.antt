@@ -6,7 +6,7 @@ use Rattle.verdicts.proofs.Quiet.{both_first_apart}
 use Rattle.verdicts.proofs.checks.pair_apart.Goals as goal
 
 pub returns-in-Some : goal.returns-in-Some
-returns-in-Some c = holds_decides (λ _. renamed _ _ _ _ c.row-word.ensures c.row-word-2.ensures (both_first_apart (told c.args.answers.now) c.row-word.result.now c.row-word-2.result.now c.in-Some.field-0 c.in-Some.ensures))
+returns-in-Some c = holds_decides (λ _. renamed _ _ _ _ c.row_word.ensures c.row_word-2.ensures (both_first_apart (told c.args.answers.now) c.row_word.result.now c.row_word-2.result.now c.in-Some.field-0 c.in-Some.ensures))
 
 pub returns-in-None : goal.returns-in-None
-returns-in-None c = never_decides (λ h. c.in-None.ensures (renamed _ _ _ _ (sym c.row-word.ensures) (sym c.row-word-2.ensures) (h c.if-one-other.false)))
+returns-in-None c = never_decides (λ h. c.in-None.ensures (renamed _ _ _ _ (sym c.row_word.ensures) (sym c.row_word-2.ensures) (h c.if-one-other.false)))

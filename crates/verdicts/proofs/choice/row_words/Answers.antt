@@ -1,4 +1,4 @@
-use Rattle.std.proofs.Common.{◌≡◌, ℕ, ◌+◌, ◌<◌, List, [], ◌∷◌, ◌++◌, length, get_or, Some, None, vec_items, Option, sym, ap, ◌∙◌, subst, inl, inr, arith}
+use Rattle.std.proofs.Common.{◌≡◌, ℕ, ◌+◌, List, [], ◌∷◌, ◌++◌, get_or, None, vec_items, Option, sym, subst, inl, inr, arith}
 use Rattle.std.proofs.lemmas.List.{length_push, get_or_append_left, get_or_push}
 use Rattle.std.proofs.lemmas.Bool.{cases_lt}
 use Rattle.machines.specs.Tables.{Table}
@@ -23,4 +23,4 @@ pub loop-row-preserved : goal.loop-row-preserved
 loop-row-preserved c =
     let t = c.args.table.now in
     let answers = told c.args.answers.now in
-    subst (WordsFor (keys_of t) (cells_of t) answers (c.loop-row.row + 1)) (sym c.in-ok-push.ensures.items) (one_more (keys_of t) (cells_of t) answers c.loop-row.row (vec_items c.loop-row.chosen) c.best-word.result c.loop-row.invariant c.best-word.ensures)
+    subst (WordsFor (keys_of t) (cells_of t) answers (c.loop-row.row + 1)) (sym c.in_ok-push.ensures.items) (one_more (keys_of t) (cells_of t) answers c.loop-row.row (vec_items c.loop-row.chosen) c.best_word.result c.loop-row.invariant c.best_word.ensures)

@@ -11,7 +11,7 @@ returns c =
     let order = c.args.order.now in
     let one = c.args.one in
     let other = c.args.other in
-    let long : length (word_at answers (get_or order one 0)) ≡ length (word_at answers (get_or order other 0)) = sym (ap length c.word-in-u.ensures) ∙ (c.if-u-v.false ∙ ap length c.word-in-v.ensures) in (
+    let long : length (word_at answers (get_or order one 0)) ≡ length (word_at answers (get_or order other 0)) = sym (ap length c.word_in-u.ensures) ∙ (c.if-u-v.false ∙ ap length c.word_in-v.ensures) in (
       λ e. inr (long, c.requires.sorted.rising one other (ltb-true one other e) c.requires.other),
       λ less. lt-ltb one other (elim less [ inl l ↦ absurd (omega (arith, l, long)) | inr b ↦ place_decides answers order one other c.requires.sorted c.requires.one c.requires.other b.1 ]),
     )

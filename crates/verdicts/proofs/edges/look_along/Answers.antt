@@ -1,4 +1,4 @@
-use Rattle.std.proofs.Common.{◌≡◌, ℕ, ◌+◌, ◌*◌, ◌<◌, ◌≤◌, Bool, List, length, vec_items, Decides, sym, ap, ◌∙◌, subst, add-mul, one-mul, arith, rules}
+use Rattle.std.proofs.Common.{◌≡◌, ◌+◌, ◌*◌, ◌<◌, ◌≤◌, subst, add-mul, one-mul, arith}
 use Rattle.answers.specs.Logs.{told}
 use Rattle.answers.specs.Made.{lists}
 use Rattle.answers.specs.Values.{keys_of, rows_of, cells_of}
@@ -8,15 +8,15 @@ use Rattle.verdicts.proofs.Listed.{lists_few, lists_more}
 use Rattle.verdicts.proofs.Places.{at_pair, from_pair, few_places}
 use Rattle.verdicts.proofs.edges.look_along.Goals as goal
 
-pub overflow-mul-edge : goal.overflow-mul-edge
-overflow-mul-edge c =
+pub overflow_mul-edge : goal.overflow_mul-edge
+overflow_mul-edge c =
     let t = c.args.table.now in
     let few = few_places c.args.edge (keys_of t) (rows_of t) t.few_rows t.few_keys c.requires.edge in
     let small : c.args.edge * c.rows-rows.result ≤ 70368744177664 = rw c.rows-rows.ensures few in
     omega (arith, small)
 
-pub overflow-add-edge : goal.overflow-add-edge
-overflow-add-edge c =
+pub overflow_add-edge : goal.overflow_add-edge
+overflow_add-edge c =
     let t = c.args.table.now in
     let few = few_places c.args.edge (keys_of t) (rows_of t) t.few_rows t.few_keys c.requires.edge in
     let small : c.args.edge * c.rows-rows.result ≤ 70368744177664 = rw c.rows-rows.ensures few in
@@ -34,11 +34,11 @@ loop-row-preserved c =
     let t = c.args.table.now in
     let e = c.args.edge in
     let j = c.loop-row.row in
-    let good = c.apart-or-there-good.result in
+    let good = c.apart_or_there-good.result in
     let here = ApartOrThere (keys_of t) (cells_of t) (lists c.args.words.now) (told c.args.answers.now) in
     let within : j < rows_of t = omega (arith, c.loop-row-test.true, c.rows-rows.ensures) in
-    let d = c.apart-or-there-good.ensures in
-    let looked = subst (λ r. Looked c.args.most (e * r + j) good c.loop-row.found c.look.new.self) c.rows-rows.ensures c.in-ok-look.ensures in
+    let d = c.apart_or_there-good.ensures in
+    let looked = subst (λ r. Looked c.args.most (e * r + j) good c.loop-row.found c.look.new.self) c.rows-rows.ensures c.in_ok-look.ensures in
     let more = lists_more (EdgeApart (keys_of t) (rows_of t) (cells_of t) (lists c.args.words.now) (told c.args.answers.now)) c.args.most (e * rows_of t + j) good c.loop-row.found c.look.new.self c.loop-row.invariant
     (λ y. at_pair here e (rows_of t) j within (d.0 y), λ g. d.1 (from_pair here e (rows_of t) j within g)) looked in
     let next : e * rows_of t + j + 1 ≡ e * rows_of t + (j + 1) = omega arith in

@@ -1,4 +1,4 @@
-use Rattle.std.proofs.Common.{◌≡◌, ◌*◌, sym, subst, zero-mul, arith}
+use Rattle.std.proofs.Common.{sym, subst, zero-mul}
 use Rattle.answers.specs.Logs.{told}
 use Rattle.answers.specs.Made.{lists}
 use Rattle.answers.specs.Values.{keys_of, rows_of, cells_of}

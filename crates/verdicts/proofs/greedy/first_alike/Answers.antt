@@ -10,4 +10,4 @@ pub loop-q-preserved : goal.loop-q-preserved
 loop-q-preserved c =
     let answers = told c.args.answers.now in
     below_more (λ p. ToldApart (FirstSaid answers) (word_at answers c.args.i) (word_at answers (get_or c.args.chosen.now p 0))) c.loop-q.q c.loop-q.invariant
-    (renamed _ _ _ _ c.word-of-word.ensures c.word-of-other.ensures (both_first_apart answers c.word-of-word.result.now c.word-of-other.result.now c.in-default.field-0 c.in-default.ensures))
+    (renamed _ _ _ _ c.word_of-word.ensures c.word_of-other.ensures (both_first_apart answers c.word_of-word.result.now c.word_of-other.result.now c.in_default.field-0 c.in_default.ensures))

@@ -16,7 +16,7 @@ pub look-requires : goal.look-requires
 look-requires c = omega (arith, lists_few (Consistent (told c.args.answers.now)) c.args.most c.loop-i.i c.loop-i.found c.loop-i.invariant, c.loop-i-test.true)
 
 pub loop-i-preserved : goal.loop-i-preserved
-loop-i-preserved c = lists_more (Consistent (told c.args.answers.now)) c.args.most c.loop-i.i c.consistent.result c.loop-i.found c.look.new.self c.loop-i.invariant c.consistent.ensures c.in-ok-look.ensures
+loop-i-preserved c = lists_more (Consistent (told c.args.answers.now)) c.args.most c.loop-i.i c.consistent.result c.loop-i.found c.look.new.self c.loop-i.invariant c.consistent.ensures c.in_ok-look.ensures
 
 pub returns : goal.returns
 returns c =

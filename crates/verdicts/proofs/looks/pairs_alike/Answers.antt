@@ -12,4 +12,4 @@ pub look-requires : goal.look-requires
 look-requires c = omega (arith, lists_few (PairApart c.args.rows (lists c.args.words.now) (told c.args.answers.now)) c.args.most c.loop-p.p c.loop-p.found c.loop-p.invariant, c.loop-p-test.true)
 
 pub loop-p-preserved : goal.loop-p-preserved
-loop-p-preserved c = lists_more (PairApart c.args.rows (lists c.args.words.now) (told c.args.answers.now)) c.args.most c.loop-p.p c.pair-apart.result c.loop-p.found c.look.new.self c.loop-p.invariant c.pair-apart.ensures c.in-ok-look.ensures
+loop-p-preserved c = lists_more (PairApart c.args.rows (lists c.args.words.now) (told c.args.answers.now)) c.args.most c.loop-p.p c.pair_apart.result c.loop-p.found c.look.new.self c.loop-p.invariant c.pair_apart.ensures c.in_ok-look.ensures

@@ -1,4 +1,4 @@
-use Rattle.std.proofs.Common.{◌++◌, sym, subst}
+use Rattle.std.proofs.Common.{◌++◌, subst}
 use Rattle.machines.specs.Words.{Before}
 use Rattle.machines.proofs.Alphabet.{before_irrefl, before_asym}
 use Rattle.answers.proofs.Alike.{never_decides}

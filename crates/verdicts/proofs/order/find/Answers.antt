@@ -4,5 +4,5 @@ use Rattle.answers.specs.Logs.{told}
 use Rattle.verdicts.proofs.Inserted.{nowhere}
 use Rattle.verdicts.proofs.order.find.Goals as goal
 
-pub returns-else-stands-at : goal.returns-else-stands-at
-returns-else-stands-at c = nowhere (told c.args.answers.now) c.args.order.now (c.args.u.now ++ c.args.x.now) c.place-of-place.result c.requires c.place-of-place.ensures (not_from_Decides _ c.stands-at.ensures c.if-stands-at.false)
+pub returns-else-stands_at : goal.returns-else-stands_at
+returns-else-stands_at c = nowhere (told c.args.answers.now) c.args.order.now (c.args.u.now ++ c.args.x.now) c.place_of-place.result c.requires c.place_of-place.ensures (not_from_Decides _ c.stands_at.ensures c.if-stands_at.false)

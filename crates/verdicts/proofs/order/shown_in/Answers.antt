@@ -4,8 +4,8 @@ use Rattle.answers.specs.declared.log.Answer.{Answer}
 use Rattle.answers.proofs.Alike.{length-told, told_read}
 use Rattle.verdicts.proofs.order.shown_in.Goals as goal
 
-pub offset-bounds-answers-i : goal.offset-bounds-answers-i
-offset-bounds-answers-i c =
+pub offset_bounds-answers-i : goal.offset_bounds-answers-i
+offset_bounds-answers-i c =
     let h : c.args.i < length c.args.answers.now = omega (arith, length-told c.args.answers.now, c.requires) in
     search rules
 

@@ -1,4 +1,4 @@
-use Rattle.std.proofs.Common.{◌≡◌, ℕ, ◌+◌, ◌<◌, Bool, true, false, List, length, get_or, vec_items, Decides, sym, refl, ap, ◌∙◌, subst, append-nil, arith}
+use Rattle.std.proofs.Common.{◌≡◌, ℕ, Bool, List, vec_items, Decides, refl, ◌∙◌, subst, append-nil, arith}
 use Rattle.std.proofs.lemmas.Bool.Decides.{not_from_Decides}
 use Rattle.machines.specs.Words.{Word}
 use Rattle.machines.specs.Answers.{Told}
@@ -16,18 +16,18 @@ placed_at answers slice order w v p e f h = subst (λ z. Placed answers z v p) e
 stands_at : (answers : List Told) (slice order : List ℕ) (w v : Word) (p : ℕ) (r : Bool) → slice ≡ order → w ≡ v → Decides r (StandsAt answers slice w p) → Decides r (StandsAt answers order v p)
 stands_at answers slice order w v p r e f h = subst (λ z. Decides r (StandsAt answers z v p)) e (subst (λ z. Decides r (StandsAt answers slice z p)) f h)
 
-pub returns-in-ok-insert : goal.returns-in-ok-insert
-returns-in-ok-insert c =
+pub returns-in_ok-insert : goal.returns-in_ok-insert
+returns-in_ok-insert c =
     let answers = c.args.answers.now in
     let order = vec_items c.args.order.now in
     let i = c.args.i in
-    let p = c.place-of-place.result in
-    let word = append-nil c.as-slice-word.result.now ∙ word_told_at answers i c.index-answers-i.result c.as-slice-word.result.now c.requires.within c.index-answers-i.is c.as-slice-word.ensures.value in
-    let placed = placed_at (told answers) _ order _ (word_at (told answers) i) p c.as-slice.ensures.value word c.place-of-place.ensures in
-    let stands = stands_at (told answers) _ order _ (word_at (told answers) i) p c.stands-at.result c.as-slice-2.ensures.value word c.stands-at.ensures in
-    let put = c.in-ok-insert.ensures in
+    let p = c.place_of-place.result in
+    let word = append-nil c.as_slice-word.result.now ∙ word_told_at answers i c.index-answers-i.result c.as_slice-word.result.now c.requires.within c.index-answers-i.is c.as_slice-word.ensures.value in
+    let placed = placed_at (told answers) _ order _ (word_at (told answers) i) p c.as_slice.ensures.value word c.place_of-place.ensures in
+    let stands = stands_at (told answers) _ order _ (word_at (told answers) i) p c.stands_at.result c.as_slice-2.ensures.value word c.stands_at.ensures in
+    let put = c.in_ok-insert.ensures in
     wider_ordered (told answers) i order (vec_items c.insert.new.self) p c.requires.before (omega (arith, length-told answers, c.requires.within)) placed
-    (nowhere (told answers) order (word_at (told answers) i) p c.requires.before.sorted placed (not_from_Decides _ stands c.if-not-stands-at.true))
+    (nowhere (told answers) order (word_at (told answers) i) p c.requires.before.sorted placed (not_from_Decides _ stands c.if-not-stands_at.true))
     (record {
       long = omega (arith, put.len, c.insert.new.self.ok.0, c.args.order.now.ok.0);
       front = λ k h. put.by_index.1 k 0 h;
@@ -35,11 +35,11 @@ returns-in-ok-insert c =
       back = λ k h. put.by_index.2 k 0 refl h;
     })
 
-pub returns-else-not-stands-at : goal.returns-else-not-stands-at
-returns-else-not-stands-at c =
+pub returns-else-not-stands_at : goal.returns-else-not-stands_at
+returns-else-not-stands_at c =
     let answers = c.args.answers.now in
     let order = vec_items c.args.order.now in
     let i = c.args.i in
-    let word = append-nil c.as-slice-word.result.now ∙ word_told_at answers i c.index-answers-i.result c.as-slice-word.result.now c.requires.within c.index-answers-i.is c.as-slice-word.ensures.value in
-    let stands = stands_at (told answers) _ order _ (word_at (told answers) i) c.place-of-place.result c.stands-at.result c.as-slice-2.ensures.value word c.stands-at.ensures in
-    known_ordered (told answers) i order c.place-of-place.result (stands.0 c.if-not-stands-at.false) c.requires.before
+    let word = append-nil c.as_slice-word.result.now ∙ word_told_at answers i c.index-answers-i.result c.as_slice-word.result.now c.requires.within c.index-answers-i.is c.as_slice-word.ensures.value in
+    let stands = stands_at (told answers) _ order _ (word_at (told answers) i) c.place_of-place.result c.stands_at.result c.as_slice-2.ensures.value word c.stands_at.ensures in
+    known_ordered (told answers) i order c.place_of-place.result (stands.0 c.if-not-stands_at.false) c.requires.before

@@ -3,8 +3,8 @@ use Rattle.answers.proofs.Alike.{length-told}
 use Rattle.verdicts.proofs.Slices.{word_told_at}
 use Rattle.verdicts.proofs.order.word_of.Goals as goal
 
-pub offset-bounds-answers-i : goal.offset-bounds-answers-i
-offset-bounds-answers-i c =
+pub offset_bounds-answers-i : goal.offset_bounds-answers-i
+offset_bounds-answers-i c =
     let h : c.args.i < length c.args.answers.now = omega (arith, length-told c.args.answers.now, c.requires) in
     search rules
 
@@ -12,4 +12,4 @@ pub bounds-answers-i : goal.bounds-answers-i
 bounds-answers-i c = omega (arith, length-told c.args.answers.now, c.requires)
 
 pub returns : goal.returns
-returns c = word_told_at c.args.answers.now c.args.i c.index-answers-i.result c.as-slice.result.now (omega (arith, length-told c.args.answers.now, c.requires)) c.index-answers-i.is c.as-slice.ensures.value
+returns c = word_told_at c.args.answers.now c.args.i c.index-answers-i.result c.as_slice.result.now (omega (arith, length-told c.args.answers.now, c.requires)) c.index-answers-i.is c.as_slice.ensures.value

@@ -4,4 +4,4 @@ use Rattle.answers.specs.Made.{lists}
 use Rattle.verdicts.proofs.verdict.audit.Goals as goal
 
 pub returns : goal.returns
-returns c = c.verdict.ensures (lists c.args.words.now) (told c.args.answers.now) 1 (omega arith) c.in-ok-report.ensures
+returns c = c.verdict.ensures (lists c.args.words.now) (told c.args.answers.now) 1 (omega arith) c.in_ok-report.ensures

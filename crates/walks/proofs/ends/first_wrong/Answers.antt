@@ -11,13 +11,13 @@ use Rattle.walks.proofs.ends.first_wrong.Goals as goal
 pub returns-then-not-shows : goal.returns-then-not-shows
 returns-then-not-shows c held closed =
     let inside = answer_there c.args.store.now (dims c.args.shape) c.answers-c-end.result c.loop-c.c c.answers-c-end.ensures.count (omega arith) in
-    let both = compared c.args.store.now (dims c.args.shape) c.loop-c.c c.end-row.result.0 c.edge-of-edge.result.0 c.entry-shown.result c.seen.result held closed inside (c.end-row.ensures held inside) c.edge-of-edge.ensures c.entry-shown.ensures c.seen.ensures in
+    let both = compared c.args.store.now (dims c.args.shape) c.loop-c.c c.end_row.result.0 c.edge_of-edge.result.0 c.entry-shown.result c.seen.result held closed inside (c.end_row.ensures held inside) c.edge_of-edge.ensures c.entry-shown.ensures c.seen.ensures in
     record { answer_in = inside; wrong = λ e. not_from_Decides _ c.shows.ensures c.if-not-shows.true (both.0 ∙ e ∙ sym both.1); earlier = c.loop-c.invariant held closed }
 
 pub loop-c-preserved : goal.loop-c-preserved
 loop-c-preserved c held closed =
     let inside = answer_there c.args.store.now (dims c.args.shape) c.answers-c-end.result c.loop-c.c c.answers-c-end.ensures.count (omega arith) in
-    let both = compared c.args.store.now (dims c.args.shape) c.loop-c.c c.end-row.result.0 c.edge-of-edge.result.0 c.entry-shown.result c.seen.result held closed inside (c.end-row.ensures held inside) c.edge-of-edge.ensures c.entry-shown.ensures c.seen.ensures in
+    let both = compared c.args.store.now (dims c.args.shape) c.loop-c.c c.end_row.result.0 c.edge_of-edge.result.0 c.entry-shown.result c.seen.result held closed inside (c.end_row.ensures held inside) c.edge_of-edge.ensures c.entry-shown.ensures c.seen.ensures in
     below_more (RightAt c.args.store.now (dims c.args.shape)) c.loop-c.c (c.loop-c.invariant held closed) (sym both.0 ∙ c.shows.ensures.0 c.if-not-shows.false ∙ both.1)
 
 pub returns : goal.returns

@@ -9,7 +9,7 @@ use Rattle.walks.proofs.leads.lead.Goals as goal
 
 pub loop-i-preserved : goal.loop-i-preserved
 loop-i-preserved c =
-    c.next-row-row.ensures
+    c.next_row-row.ensures
     ∙ ap (λ (z : ℕ). get_or (model_of c.args.store.now (dims c.args.shape)).successors (suc (c.loop-i.row.0 * (dims c.args.shape).keys + z)) 0) c.letter.ensures
     ∙ leads_on (dims c.args.shape).keys (model_of c.args.store.now (dims c.args.shape)).successors c.args.from.0 c.loop-i.row.0 (spelt c.args.word) c.loop-i.i (omega (arith, c.min-i-end.ensures, c.count.ensures)) c.loop-i.invariant
 

@@ -1,5 +1,5 @@
 -- The successor is read where it stands.
-use Rattle.std.proofs.Common.{ℕ, suc, ◌+◌, ◌*◌, List, get_or, sym, ap, ◌∙◌, arith}
+use Rattle.std.proofs.Common.{ℕ, ◌+◌, ◌*◌, List, get_or, sym, ap, ◌∙◌, arith}
 use Rattle.areas.specs.Shapes.{dims}
 use Rattle.store.specs.Decoding.{model_of}
 use Rattle.moves.proofs.Decoded.{successors_read}

@@ -6,7 +6,7 @@ use Rattle.writing.proofs.report.wanted.Goals as goal
 
 pub returns-in-AsksCell : goal.returns-in-AsksCell
 returns-in-AsksCell c = record {
-  wants = λ h room. cell_wants c.args.store.now (dims c.args.shape) c.in-AsksCell.edge.0 c.in-AsksCell.suffix c.cell-answer-word.result c.args.out.now c.ask.new.out c.ask.result h room (sym c.in-AsksCell.ensures) c.cell-answer-word.ensures c.ask.ensures.word;
+  wants = λ h room. cell_wants c.args.store.now (dims c.args.shape) c.in-AsksCell.edge.0 c.in-AsksCell.suffix c.cell_answer-word.result c.args.out.now c.ask.new.out c.ask.result h room (sym c.in-AsksCell.ensures) c.cell_answer-word.ensures c.ask.ensures.word;
   stored = c.ask.ensures.stored;
 }
 
@@ -18,6 +18,6 @@ returns-in-AsksMiddle c = record {
 
 pub returns-in-ShowsTable : goal.returns-in-ShowsTable
 returns-in-ShowsTable c = record {
-  wants = λ h room. table_wants c.args.store.now (dims c.args.shape) c.args.out.now c.write-table.new.out c.write-table.result h room (sym c.in-ShowsTable.ensures) (c.write-table.ensures h);
+  wants = λ h room. table_wants c.args.store.now (dims c.args.shape) c.args.out.now c.write_table.new.out c.write_table.result h room (sym c.in-ShowsTable.ensures) (c.write_table.ensures h);
   stored = λ e. let z : ◌≡◌ {A = ℕ} 0 1 = cc in omega arith;
 }

@@ -1,4 +1,4 @@
-use Rattle.std.proofs.Common.{◌+◌, ◌*◌, ap, arith}
+use Rattle.std.proofs.Common.{◌+◌, ap, arith}
 use Rattle.answers.proofs.Cells.{cell_in, cell_read}
 use Rattle.answers.proofs.table.Table.follow.Goals as goal
 

@@ -1,4 +1,4 @@
-use Rattle.answers.proofs.Rows.{rows_whole, no_rows}
+use Rattle.answers.proofs.Rows.{no_rows}
 use Rattle.answers.proofs.table.Table.from_numbers.Goals as goal
 
 pub returns-then-rows-lt1 : goal.returns-then-rows-lt1

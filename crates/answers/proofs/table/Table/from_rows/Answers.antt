@@ -1,13 +1,13 @@
-use Rattle.std.proofs.Common.{◌≡◌, ℕ, ◌+◌, ◌-◌, ◌<◌, ◌≤◌, cond, List, [], ◌++◌, length, get_or, vec_items, sym, refl, ap, ◌∙◌, subst, arith}
+use Rattle.std.proofs.Common.{◌≡◌, ◌+◌, ◌-◌, ◌≤◌, cond, [], ◌++◌, length, get_or, vec_items, sym, ap, ◌∙◌, subst, arith}
 use Rattle.answers.specs.Made.{lists, AllLead}
 use Rattle.answers.proofs.Gathered.{length-lists, list_read, width_read, no_lists, gathered_more, gathered_all, gathered_long, gathered_inside}
 use Rattle.answers.proofs.table.Table.from_rows.Goals as goal
 
-pub returns-in-default : goal.returns-in-default
-returns-in-default c = no_lists c.args.rows.now c.in-default.ensures.item.3
+pub returns-in_default : goal.returns-in_default
+returns-in_default c = no_lists c.args.rows.now c.in_default.ensures.item.3
 
-pub returns-then-rows-gt-MOST-ROWS : goal.returns-then-rows-gt-MOST-ROWS
-returns-then-rows-gt-MOST-ROWS c = (c.if-rows-gt-MOST-ROWS.true, sym (length-lists c.args.rows.now))
+pub returns-then-rows-gt-MOST_ROWS : goal.returns-then-rows-gt-MOST_ROWS
+returns-then-rows-gt-MOST_ROWS c = (c.if-rows-gt-MOST_ROWS.true, sym (length-lists c.args.rows.now))
 
 pub returns-then-width-lt2 : goal.returns-then-width-lt2
 returns-then-width-lt2 c =
@@ -29,16 +29,16 @@ returns-then-len-width c =
     let front = width_read rows 0 c.in-Some.first.now some.0 (some.1 _) in
     (omega (arith, length-lists rows, c.loop-i-test.true), λ e. c.if-len-width.true (c.len.ensures ∙ (this ∙ (e ∙ (sym front ∙ sym c.len-width.ensures)))))
 
-pub returns-in-Some-stray-key : goal.returns-in-Some-stray-key
-returns-in-Some-stray-key c =
+pub returns-in-Some-stray_key : goal.returns-in-Some-stray_key
+returns-in-Some-stray_key c =
     let rows = c.args.rows.now in
     let row = c.index-rows-i.result in
     let this = width_read rows c.loop-i.i row c.loop-i-test.true c.index-rows-i.is in
-    let same = c.as-slice.ensures.value ∙ list_read rows c.loop-i.i row c.loop-i-test.true c.index-rows-i.is in
-    let stray = c.in-Some-stray-key.ensures in (
+    let same = c.as_slice.ensures.value ∙ list_read rows c.loop-i.i row c.loop-i-test.true c.index-rows-i.is in
+    let stray = c.in-Some-stray_key.ensures in (
       omega (arith, length-lists rows, c.loop-i-test.true),
       omega (arith, this, c.len.ensures, c.if-len-width.false, stray.0),
-      subst (λ z. length (lists rows) ≤ get_or z (1 + c.in-Some-stray-key.key.0) 0) same (omega (arith, length-lists rows, stray.1)),
+      subst (λ z. length (lists rows) ≤ get_or z (1 + c.in-Some-stray_key.key.0) 0) same (omega (arith, length-lists rows, stray.1)),
     )
 
 pub loop-i-preserved : goal.loop-i-preserved
@@ -47,24 +47,31 @@ loop-i-preserved c =
     let row = c.index-rows-i.result in
     let i = c.loop-i.i in
     let list = list_read rows i row c.loop-i-test.true c.index-rows-i.is in
-    let lead = subst (λ z. AllLead z (c.len-width.result - 1) (length rows)) (c.as-slice.ensures.value ∙ list) c.in-default-stray-key.ensures in
-    let more = c.extend-from-slice.ensures.items ∙ (ap (λ b. cond b (vec_items c.loop-i.cells ++ c.as-slice-in-loop-i.result.now) (vec_items c.loop-i.cells)) c.if-is-err.ensures.negation
-    ∙ ap (λ z. vec_items c.loop-i.cells ++ z) (c.as-slice-in-loop-i.ensures.value ∙ list)) in
-    gathered_more (lists rows) c.len-width.result i (vec_items c.loop-i.cells) (vec_items c.extend-from-slice.new.self) c.loop-i.invariant
+    let lead = subst (λ z. AllLead z (c.len-width.result - 1) (length rows)) (c.as_slice.ensures.value ∙ list) c.in_default-stray_key.ensures in
+    let more = c.extend_from_slice.ensures.items ∙ (ap (λ b. cond b (vec_items c.loop-i.cells ++ c.as_slice-in-loop-i.result.now) (vec_items c.loop-i.cells)) c.if-is_err.ensures.negation
+    ∙ ap (λ z. vec_items c.loop-i.cells ++ z) (c.as_slice-in-loop-i.ensures.value ∙ list)) in
+    gathered_more (lists rows) c.len-width.result i (vec_items c.loop-i.cells) (vec_items c.extend_from_slice.new.self) c.loop-i.invariant
     (omega (arith, length-lists rows, c.loop-i-test.true))
     (sym (width_read rows i row c.loop-i-test.true c.index-rows-i.is) ∙ (sym c.len.ensures ∙ c.if-len-width.false))
     (subst (AllLead (get_or (lists rows) i []) (c.len-width.result - 1)) (sym (length-lists rows)) lead)
     more
 
-pub invariant-of-result : goal.invariant-of-result
-invariant-of-result c =
+pub invariant_of-result : goal.invariant_of-result
+invariant_of-result c =
     let rows = c.args.rows.now in
     let cells = vec_items c.loop-i.cells in
     let all : c.loop-i.i ≡ length (lists rows) = omega (arith, length-lists rows, c.loop-i-test.false, c.loop-i.auto.i-end) in
     let long = gathered_long (lists rows) c.len-width.result c.loop-i.i cells c.loop-i.invariant all c.if-width-lt2.false in
     let inside = gathered_inside (lists rows) c.len-width.result c.loop-i.i cells c.loop-i.invariant all c.if-width-lt2.false in
     let n = length-lists rows in
-    (omega arith, (omega arith, (omega (arith, c.in-Some.ensures.item.3.0), (omega arith, (rw n at long, (rw n at inside, tt))))))
+    record {
+      some_keys = omega arith;
+      few_keys = omega arith;
+      some_rows = omega (arith, c.in-Some.ensures.item.3.0);
+      few_rows = omega arith;
+      long = rw n at long;
+      inside = rw n at inside;
+    }
 
 pub returns : goal.returns
 returns c =

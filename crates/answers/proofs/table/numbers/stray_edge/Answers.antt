@@ -3,11 +3,11 @@ use Rattle.machines.specs.Tables.{next}
 use Rattle.answers.proofs.Rows.{row_within, next_in_row}
 use Rattle.answers.proofs.table.numbers.stray_edge.Goals as goal
 
-pub offset-bounds-numbers-i : goal.offset-bounds-numbers-i
-offset-bounds-numbers-i c = omega (arith, row_within c.loop-i.i c.args.rows (c.args.keys + 1) c.loop-i-test.true)
+pub offset_bounds-numbers-i : goal.offset_bounds-numbers-i
+offset_bounds-numbers-i c = omega (arith, row_within c.loop-i.i c.args.rows (c.args.keys + 1) c.loop-i-test.true)
 
-pub slice-bounds-row-end : goal.slice-bounds-row-end
-slice-bounds-row-end c = omega (arith, row_within c.loop-i.i c.args.rows (c.args.keys + 1) c.loop-i-test.true)
+pub slice_bounds-row-end : goal.slice_bounds-row-end
+slice_bounds-row-end c = omega (arith, row_within c.loop-i.i c.args.rows (c.args.keys + 1) c.loop-i-test.true)
 
 pub returns-in-Some : goal.returns-in-Some
 returns-in-Some c =
@@ -21,4 +21,4 @@ returns-in-Some c =
 pub loop-i-preserved : goal.loop-i-preserved
 loop-i-preserved c = λ j x below key.
     below_more (λ (i : ℕ). (y : ℕ) → y < c.args.keys → next c.args.keys c.args.numbers.now i y < c.args.rows) c.loop-i.i (λ i h y. c.loop-i.invariant i y h)
-    (λ y h. subst (λ (z : ℕ). z < c.args.rows) (next_in_row c.args.keys c.args.numbers.now c.loop-i.i y h) (c.in-default.ensures y h)) j below x key
+    (λ y h. subst (λ (z : ℕ). z < c.args.rows) (next_in_row c.args.keys c.args.numbers.now c.loop-i.i y h) (c.in_default.ensures y h)) j below x key

@@ -4,6 +4,6 @@ use Rattle.areas.proofs.shape.layout.cell_count.Goals as goal
 
 pub returns : goal.returns
 returns c = record {
-  exact = ap (λ (z : ℕ). z * c.args.most) c.edge-count.ensures.exact;
-  few = mul-le c.edge-count.result c.args.most 65537 1024 c.edge-count.ensures.few c.requires.most;
+  exact = ap (λ (z : ℕ). z * c.args.most) c.edge_count.ensures.exact;
+  few = mul-le c.edge_count.result c.args.most 65537 1024 c.edge_count.ensures.few c.requires.most;
 }

@@ -34,4 +34,4 @@ visit-requires c =
 pub returns : goal.returns
 returns c =
     pair_visited c.args.one.now c.args.other.now c.requires.alike c.args.self.now c.requires.sofar.1.0 c.args.at c.args.key c.requires.sofar.1.1 c.requires.sofar.0 c.index.result.now c.index.ensures c.requires.key c.follow-pair.result c.follow-pair.ensures.one c.follow-pair.ensures.other
-    (c.alike.ensures.0 c.if-not-alike.false) c.number-number.result c.visit.new.self c.number-number.ensures c.in-ok-visit.ensures
+    (c.alike.ensures.0 c.if-not-alike.false) c.number-number.result c.visit.new.self c.number-number.ensures c.in_ok-visit.ensures

@@ -21,4 +21,4 @@ loop-place-preserved c =
     let some : 0 < p = omega (arith, c.loop-place-test.true) in
     let read = visit_read visits p c.index-visit.result.now there c.index-visit.ensures in
     let back = subst (λ (z : Visit). z.from < p) (sym read) (c.requires.linked.1.back p some there) in
-    (omega (arith, back, c.loop-place.invariant.0), λ ws d. reads_on visits ws p c.index-visit.result.now (vec_items c.loop-place.word) _ _ some there read c.in-ok-push-2.ensures.items d (c.loop-place.invariant.1 ws d))
+    (omega (arith, back, c.loop-place.invariant.0), λ ws d. reads_on visits ws p c.index-visit.result.now (vec_items c.loop-place.word) _ _ some there read c.in_ok-push-2.ensures.items d (c.loop-place.invariant.1 ws d))

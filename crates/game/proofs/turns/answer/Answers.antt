@@ -1,12 +1,12 @@
-use Rattle.std.proofs.Common.{◌≡◌, ℕ, ◌+◌, length, sym, ap, ◌∙◌, subst, arith}
+use Rattle.std.proofs.Common.{◌≡◌, length, sym, ap, ◌∙◌, subst, arith}
 use Rattle.machines.specs.Words.{Word}
 use Rattle.machines.specs.Tables.{shows}
 use Rattle.answers.specs.Values.{keys_of, cells_of, Shows}
 use Rattle.game.proofs.Courses.{course_few, course_heard, onward}
-use Rattle.game.proofs.rounds.answer.Goals as goal
+use Rattle.game.proofs.turns.answer.Goals as goal
 
-pub overflow-add-transcript : goal.overflow-add-transcript
-overflow-add-transcript c = let few = course_few c.requires.1 (omega arith) in omega (arith, few)
+pub overflow_add-transcript : goal.overflow_add-transcript
+overflow_add-transcript c = let few = course_few c.requires.1 (omega arith) in omega (arith, few)
 
 pub returns : goal.returns
 returns c =

@@ -1,9 +1,27 @@
--- Edges that are like a row or like none.
+-- Cells without an answer, and edges that are like a row or like none.
 use Rattle.std.specs.Prelude.{◌≡◌, ℕ, ◌<◌, ◌≤◌, List, length, Some, None, Option}
 use Rattle.areas.specs.Layout.{Dims}
-use Rattle.model.specs.Observations.{rows, suffixes_used, edge_of, cell_at, seen}
+use Rattle.model.specs.Observations.{rows, suffixes_used, edges_used, edge_of, cell_at, seen, Full}
 use Rattle.moves.specs.Observed.{observed_at, page_at}
 use Rattle.moves.specs.declared.numbers.Row.{Row}
+use Rattle.closing.specs.declared.gaps.Gap.{Gap}
+
+-- All cells of the edges before one have an answer.
+abbrev pub KnownBefore : List ℕ → Dims → ℕ → Type 0
+KnownBefore w d u = (v e : ℕ) → v < u → e < suffixes_used (observed_at w d) → 0 < seen d.most (observed_at w d) v e
+
+-- A cell is in use and has no answer, and is the first such cell.
+pub record Unknown (w : List ℕ) (d : Dims) (u e : ℕ) : Type 0 where
+  pub edge_in : u < edges_used d.keys (observed_at w d)
+  pub suffix_in : e < suffixes_used (observed_at w d)
+  pub unknown : cell_at d.most (observed_at w d) u e ≡ 0
+  pub before : KnownBefore w d u
+  pub earlier : (f : ℕ) → f < e → 0 < seen d.most (observed_at w d) u f
+
+-- The first cell in use without an answer; none where the table is full.
+abbrev pub GapFound : List ℕ → Dims → Option Gap → Type 0
+GapFound w d None = rows (observed_at w d) ≤ d.most → Full d.keys d.most (observed_at w d)
+GapFound w d (Some g) = rows (observed_at w d) ≤ d.most → Unknown w d g.edge.0 g.suffix
 
 -- No cell names an answer that isn't there.
 abbrev pub CellsNamed : List ℕ → Dims → Type 0

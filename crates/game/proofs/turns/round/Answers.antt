@@ -3,10 +3,10 @@ use Rattle.promises.specs.declared.Wanted.{Wanted}
 use Rattle.promises.specs.declared.Wanted.TheVariants.{Ask, Larger, Short}
 use Rattle.promises.specs.Calls.{stepped}
 use Rattle.game.proofs.Wanting.{step_course, ask_within, larger_means, never_lost, short_means, step_most, step_asks, step_shows, turned_from}
-use Rattle.game.proofs.rounds.round.Goals as goal
+use Rattle.game.proofs.turns.round.Goals as goal
 
-pub slice-bounds-answer-end : goal.slice-bounds-answer-end
-slice-bounds-answer-end c = omega (arith, ask_within c.requires.1 c.step.new.store c.args.out.now c.step.new.out c.in-Ask.size c.in-Ask.ensures)
+pub slice_bounds-answer-end : goal.slice_bounds-answer-end
+slice_bounds-answer-end c = omega (arith, ask_within c.requires.1 c.step.new.store c.args.out.now c.step.new.out c.in-Ask.size c.in-Ask.ensures)
 
 pub answer-requires : goal.answer-requires
 answer-requires c =

@@ -1,0 +1,14 @@
+-- All cells before have an answer.
+use Rattle.std.proofs.Common.{ℕ, ◌<◌}
+use Rattle.areas.specs.Shapes.{dims}
+use Rattle.model.specs.Observations.{seen}
+use Rattle.moves.specs.Observed.{observed_at}
+use Rattle.closing.specs.Missing.{KnownBefore}
+use Rattle.closing.proofs.gaps.first_gap.Given as goal
+
+abbrev pub invariant-loop-suffix : goal.invariant-loop-suffix
+invariant-loop-suffix l =
+    KnownBefore l.store (dims l.shape) l.u × ((e : ℕ) → e < l.suffix → 0 < seen (dims l.shape).most (observed_at l.store (dims l.shape)) l.u e)
+
+abbrev pub invariant-loop-u : goal.invariant-loop-u
+invariant-loop-u l = KnownBefore l.store (dims l.shape) l.u

@@ -1,13 +1,14 @@
 -- Words that go on alike, and answers that tell two words apart.
-use Rattle.std.proofs.Common.{◌≡◌, ℕ, ◌<◌, Bool, true, false, List, ◌++◌, length, get_or, drop, Decides, sym, refl, ap, ◌∙◌, subst}
+use Rattle.std.proofs.Common.{◌≡◌, ℕ, ◌<◌, Bool, true, false, List, ◌++◌, length, get_or, drop, Decides, sym, refl, ap, ◌∙◌, subst, Option, Some, None, MatchOption, arith, ◌∷◌, []}
+use Rattle.std.specs.List.{AllWithin, HoldsAt}
 use Rattle.std.proofs.lemmas.List.Prefix.{front_rest}
 use Rattle.std.proofs.lemmas.List.{append_cancel_left, get_or-map, length-map}
 use Rattle.std.proofs.lemmas.Bool.{false≢true}
 use Rattle.machines.specs.Words.{Word}
 use Rattle.machines.specs.Answers.{Told, Said, ToldApart}
-use Rattle.machines.proofs.Membership.{in-get_or, in_place}
+use Rattle.machines.proofs.Membership.{in_place}
 use Rattle.answers.specs.declared.log.Answer.{Answer}
-use Rattle.answers.specs.Logs.{told_of, told, no_answer, GoOnAlike, ApartBy}
+use Rattle.answers.specs.Logs.{told_of, told, no_answer, GoOnAlike, ApartBy, Partner}
 
 pub go_on_decides : (u v a b x y : Word) (r : Bool) → a ≡ u ++ x → b ≡ v ++ y → Decides r (x ≡ y) → Decides r (GoOnAlike u v a b)
 go_on_decides u v a b x y r ea eb d =
@@ -49,20 +50,19 @@ two_answers {answers} {u} {v} t =
       },
     )
 
--- Two answers that tell words apart do so.
-pub apart_from : (answers : List Told) (u v : Word) (i j : ℕ) → i < length answers → j < length answers → ApartBy u v (get_or answers i no_answer) (get_or answers j no_answer) → ToldApart (Said answers) u v
-apart_from answers u v i j hi hj e = record {
-  behind = drop (length u) (get_or answers i no_answer).word;
-  left = (get_or answers i no_answer).shown;
-  right = (get_or answers j no_answer).shown;
-  left_said = subst (λ z. Said answers z (get_or answers i no_answer).shown) e.alike.left (in-get_or answers i no_answer hi);
-  right_said = subst (λ z. Said answers z (get_or answers j no_answer).shown) e.alike.right (in-get_or answers j no_answer hj);
-  differ = e.differ;
-}
+-- A list with a place has an element.
+pub some_of : {X : Type 0} (xs : List X) (i : ℕ) → i < length xs → X
+some_of [] i h = absurd (omega (arith, h))
+some_of (x ∷ xs) i h = x
 
--- What was tested of two answers that were read holds of the list's answers there.
-pub tested_at : (answers : List Answer) (u v : Word) (i j : ℕ) (a b : Answer) (r : Bool) → i < length answers → j < length answers → a ≡ get_or answers i a → b ≡ get_or answers j b
-    → Decides r (ApartBy u v (told_of a) (told_of b)) → Decides r (ApartBy u v (get_or (told answers) i no_answer) (get_or (told answers) j no_answer))
-tested_at answers u v i j a b r hi hj ea eb d =
-    subst (λ z. Decides r (ApartBy u v (get_or (told answers) i no_answer) z)) (told_read answers j b hj eb)
-    (subst (λ z. Decides r (ApartBy u v z (told_of b))) (told_read answers i a hi ea) d)
+-- A search through answers for one that tells u and v apart with a finds one, or there is none.
+pub partner_of : (u v : Word) (a : Told) (answers : List Answer) (r : Option ℕ)
+    → MatchOption r (AllWithin (λ (b : Answer). ApartBy u v a (told_of b) → ⊥) answers 0 (length answers)) (λ i. (i < length answers) × HoldsAt (λ (b : Answer). ApartBy u v a (told_of b)) answers i × AllWithin (λ (b : Answer). ApartBy u v a (told_of b) → ⊥) answers 0 i)
+    → Partner u v a (told answers) r
+partner_of u v a answers None h = λ j within apart.
+    let here : j < length answers = omega (arith, within, length-told answers) in
+    let b = some_of answers j here in
+    h j b (omega arith) here (subst (ApartBy u v a) (get_or-map told_of answers j b no_answer here) apart)
+partner_of u v a answers (Some i) h =
+    let b = some_of answers i h.0 in
+    (omega (arith, h.0, length-told answers), subst (ApartBy u v a) (sym (get_or-map told_of answers i b no_answer h.0)) (h.1 b))

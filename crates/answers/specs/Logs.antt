@@ -1,5 +1,5 @@
 -- How a log is read: as a list of answers.
-use Rattle.std.specs.Prelude.{◌≡◌, ℕ, Bool, cond, List, [], ◌∷◌, ◌++◌, map, length, drop, vec_items}
+use Rattle.std.specs.Prelude.{◌≡◌, ℕ, Bool, cond, ◌<◌, List, Option, Some, None, slice_index_or, [], ◌∷◌, ◌++◌, map, length, drop, vec_items}
 use Rattle.machines.specs.Words.{Word}
 use Rattle.machines.specs.Answers.{Told}
 use Rattle.answers.specs.declared.log.Answer.{Answer}
@@ -34,3 +34,8 @@ pub record ApartBy (u v : Word) (a b : Told) : Type 0 where
 -- What is read past the end of a list of answers.
 abbrev pub no_answer : Told
 no_answer = record { word = []; shown = 0 }
+
+-- An answer that tells u and v apart with answer a; none where none does.
+abbrev pub Partner : Word → Word → Told → List Told → Option ℕ → Type 0
+Partner u v a answers None = (j : ℕ) → j < length answers → ApartBy u v a (slice_index_or answers j no_answer) → ⊥
+Partner u v a answers (Some j) = (j < length answers) × ApartBy u v a (slice_index_or answers j no_answer)

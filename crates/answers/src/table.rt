@@ -2,6 +2,8 @@
 ghost use Rattle.std.specs.Prelude.{◌≡◌, ℕ, ◌+◌, ◌*◌, ◌<◌, ◌≤◌, length};
 ghost use Rattle.machines.specs.Tables.{next};
 
+pub use machines::Key;
+
 pub mod makes;
 mod numbers;
 pub mod reads;
@@ -10,14 +12,12 @@ pub mod reads;
 #[derive(Clone, Copy, PartialEq, Eq, Debug)]
 pub struct Row(pub usize);
 
-// The number of a key, from 0.
-#[derive(Clone, Copy, PartialEq, Eq, Debug)]
-pub struct Key(pub u32);
-
 // A table of so many rows, at most 1,048,576, for so many keys, 1 to 64; its cells are rows of 1 + keys numbers.
 #[derive(Drop)]
 pub struct Table {
     keys: usize,
+
+    // All rows lie in one Vec, whose length alone does not say how many they are.
     rows: usize,
     cells: Vec<u32>,
     ghost some_keys: { 1 ≤ keys },

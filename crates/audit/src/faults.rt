@@ -1,178 +1,165 @@
 // Prints each thing that is missing, with what shows it.
-use crate::files::{AnswerFile, TableFile};
+use crate::files::AnswerFile;
 use crate::problem::Problem;
-use crate::show::Word;
-use answers::log::Answer;
-use answers::table::{Key, Row};
+use answers::table::{Key, Row, Table};
+use formats::Word;
 use verdicts::listing::Listing;
 use verdicts::report::Report;
 use verdicts::words;
 use verdicts::words::WordFault;
 
-// The line of an answer in its file.
-pub fn line(told: &AnswerFile, answer: usize) -> usize {
-    told.lines.get(answer).copied().unwrap_or(0)
+// Prints what is found of a table, with a word for each row, and the answers.
+#[derive(Clone, Copy)]
+pub struct Printer<'a> {
+    pub rt: &'a HostRuntime,
+    pub table: &'a Table,
+    pub words: &'a [Vec<u32>],
+    pub told: &'a AnswerFile,
 }
 
-fn word_at(rows: &[Vec<u32>], row: usize) -> Word<'_> {
-    match rows.get(row) {
-        Some(word) => Word(word.as_slice()),
-        None => Word(&[]),
+impl Printer<'_> {
+    // The line of an answer in its file.
+    pub fn line(&self, answer: usize) -> usize {
+        self.told.lines.get(answer).copied().unwrap_or(0)
     }
-}
 
-// How many more there are than were printed.
-fn rest(rt: &HostRuntime, listing: &Listing) -> Result<(), Problem> {
-    let shown = listing.first.len();
-    if listing.count > shown {
-        let more = listing.count - shown;
-        println!(rt; "  and {more} more")?;
+    fn word(&self, row: Row) -> Word<'_> {
+        self.words
+            .get(row.0)
+            .map_or(Word(&[]), |word| Word(word.as_slice()))
     }
-    Ok(())
-}
 
-fn conflicts(rt: &HostRuntime, listing: &Listing, told: &AnswerFile) -> Result<(), Problem> {
-    let answers = told.log.answers();
-    if listing.count > 0 {
-        println!(rt; "contradictions (in what follows, the first answer to a word counts):")?;
+    // How many more there are than were printed.
+    pub fn rest(&self, count: usize, shown: usize) -> Result<(), Problem> {
+        if count > shown {
+            let more = count - shown;
+            println!(self.rt; "  and {more} more")?;
+        }
+        Ok(())
     }
-    for i in listing.first.iter() {
-        if *i < answers.len() {
-            let answer = &answers[*i];
+
+    // A heading, what is listed, each thing on a line of its own, and how many more there are.
+    fn list<T: Copy, F: Fn(T) -> Result<(), Problem>>(
+        &self,
+        heading: &str,
+        listing: &Listing<T>,
+        print: F,
+    ) -> Result<(), Problem>
+        requires { F.IsAlwaysCallable print }
+    {
+        if listing.count > 0 {
+            println!(self.rt; "{heading}")?;
+        }
+        for thing in listing.first.iter().copied() {
+            print(thing)?;
+        }
+        self.rest(listing.count, listing.first.len())
+    }
+
+    fn conflict(&self, i: usize) -> Result<(), Problem> {
+        let answers = self.told.log.answers();
+        let Some(answer) = answers.get(i) else {
+            return Ok(());
+        };
+        let Some(first) = words::first_answer(answers, answer.word.as_slice()) else {
+            return Ok(());
+        };
+        if let Some(earlier) = answers.get(first) {
             let word = Word(answer.word.as_slice());
             let shown = answer.shown;
-            let here = line(told, *i);
-            if let Some(first) = words::first_answer(answers, answer.word.as_slice()) {
-                if first < answers.len() {
-                    let before = answers[first].shown;
-                    let there = line(told, first);
-                    println!(rt;
-                        "  line {here}: after {word} the box showed {shown}, but by line {there} it showed {before}"
-                    )?;
-                }
-            }
+            let here = self.line(i);
+            let before = earlier.shown;
+            let there = self.line(first);
+            println!(self.rt;
+                "  line {here}: after {word} the box showed {shown}, but by line {there} it showed {before}"
+            )?;
         }
+        Ok(())
     }
-    rest(rt, listing)
-}
 
-fn wrong(
-    rt: &HostRuntime,
-    listing: &Listing,
-    tables: &TableFile,
-    told: &AnswerFile,
-) -> Result<(), Problem> {
-    let answers = told.log.answers();
-    if listing.count > 0 {
-        println!(rt; "wrong answers:")?;
-    }
-    for i in listing.first.iter() {
-        if *i < answers.len() {
-            let answer = &answers[*i];
+    fn wrong(&self, i: usize) -> Result<(), Problem> {
+        let Some(answer) = self.told.log.answers().get(i) else {
+            return Ok(());
+        };
+        if let Some(by_table) = self.table.shows(answer.word.as_slice()) {
             let word = Word(answer.word.as_slice());
             let shown = answer.shown;
-            let here = line(told, *i);
-            if let Some(by_table) = tables.table.shows(answer.word.as_slice()) {
-                println!(rt;
-                    "  line {here}: after {word} the box showed {shown}, the table shows {by_table}"
-                )?;
-            }
+            let here = self.line(i);
+            println!(self.rt;
+                "  line {here}: after {word} the box showed {shown}, the table shows {by_table}"
+            )?;
         }
+        Ok(())
     }
-    rest(rt, listing)
-}
 
-fn unfit(
-    rt: &HostRuntime,
-    listing: &Listing,
-    tables: &TableFile,
-    rows: &[Vec<u32>],
-    answers: &[Answer],
-) -> Result<(), Problem> {
-    if listing.count > 0 {
-        println!(rt; "rows without a fit word:")?;
-    }
-    for i in listing.first.iter() {
-        let row = *i;
-        let word = word_at(rows, row);
-        match words::word_fault(&tables.table, answers, Row(row), word.0) {
-            Some(WordFault::NotEmpty) => println!(rt;
+    fn unfit(&self, row: Row) -> Result<(), Problem> {
+        let word = self.word(row);
+        let Some(fault) = words::word_fault(self.table, self.told.log.answers(), row, word.0) else {
+            return Ok(());
+        };
+        let row = row.0;
+        match fault {
+            WordFault::NotEmpty => println!(self.rt;
                 "  row {row}: expected the empty word, not {word}"
             )?,
-            Some(WordFault::OtherKeys) => println!(rt;
+            WordFault::OtherKeys => println!(self.rt;
                 "  row {row}: the word {word} has other keys"
             )?,
-            Some(WordFault::LeadsTo(led)) => {
-                let led = led.0;
-                println!(rt; "  row {row}: the word {word} leads to row {led}")?;
-            }
-            Some(WordFault::NotTold) => println!(rt;
+            WordFault::LeadsTo(Row(led)) => println!(self.rt;
+                "  row {row}: the word {word} leads to row {led}"
+            )?,
+            WordFault::NotTold => println!(self.rt;
                 "  row {row}: the word {word} was never told of"
             )?,
-            None => {}
         }
+        Ok(())
     }
-    rest(rt, listing)
-}
 
-fn pairs(
-    rt: &HostRuntime,
-    listing: &Listing,
-    tables: &TableFile,
-    rows: &[Vec<u32>],
-) -> Result<(), Problem> {
-    let count = tables.table.rows();
-    if listing.count > 0 {
-        println!(rt; "rows that are not told apart:")?;
+    fn pair(&self, one: Row, other: Row) -> Result<(), Problem> {
+        let u = self.word(one);
+        let v = self.word(other);
+        let one = one.0;
+        let other = other.0;
+        println!(self.rt; "  rows {one} and {other}: nothing tells {u} and {v} apart")?;
+        Ok(())
     }
-    for p in listing.first.iter() {
-        let one = *p / count;
-        let other = *p % count;
-        let u = word_at(rows, one);
-        let v = word_at(rows, other);
-        println!(rt; "  rows {one} and {other}: nothing tells {u} and {v} apart")?;
-    }
-    rest(rt, listing)
-}
 
-fn edges(
-    rt: &HostRuntime,
-    listing: &Listing,
-    tables: &TableFile,
-    rows: &[Vec<u32>],
-) -> Result<(), Problem> {
-    let count = tables.table.rows();
-    let keys = tables.table.keys();
-    if listing.count > 0 {
-        println!(rt; "keys that are not told apart from another row:")?;
-    }
-    for p in listing.first.iter() {
-        let edge = *p / count;
-        let other = *p % count;
-        let row = edge / keys;
-        let key = edge % keys;
-        let u = word_at(rows, row);
-        let v = word_at(rows, other);
-        if let Some(target) = tables.table.next(Row(row), Key(key as u32)) {
-            let to = target.0;
-            println!(rt;
+    fn edge(&self, row: Row, key: Key, other: Row) -> Result<(), Problem> {
+        let u = self.word(row);
+        let v = self.word(other);
+        if let Some(Row(to)) = self.table.next(row, key) {
+            let row = row.0;
+            let key = key.0;
+            let other = other.0;
+            println!(self.rt;
                 "  row {row}, key {key}, which leads to row {to}: nothing tells {u} with {key} behind it from row {other}, {v}"
             )?;
         }
+        Ok(())
     }
-    rest(rt, listing)
-}
 
-pub fn show(
-    rt: &HostRuntime,
-    report: &Report,
-    tables: &TableFile,
-    rows: &[Vec<u32>],
-    told: &AnswerFile,
-) -> Result<(), Problem> {
-    conflicts(rt, &report.conflicts, told)?;
-    wrong(rt, &report.wrong, tables, told)?;
-    unfit(rt, &report.words, tables, rows, told.log.answers())?;
-    pairs(rt, &report.pairs, tables, rows)?;
-    edges(rt, &report.edges, tables, rows)
+    // All that is missing.
+    pub fn faults(&self, report: &Report) -> Result<(), Problem> {
+        self.list(
+            "contradictions (in what follows, the first answer to a word counts):",
+            &report.conflicts,
+            |i| self.conflict(i),
+        )?;
+        self.list("wrong answers:", &report.wrong, |i| self.wrong(i))?;
+        self.list(
+            "rows without a fit word:",
+            &report.words,
+            |row| self.unfit(row),
+        )?;
+        self.list(
+            "rows that are not told apart:",
+            &report.pairs,
+            |(one, other)| { self.pair(one, other) },
+        )?;
+        self.list(
+            "keys that are not told apart from another row:",
+            &report.edges,
+            |(row, key, other)| self.edge(row, key, other),
+        )
+    }
 }

@@ -1,210 +1,118 @@
 // Reads the two files.
-ghost use Rattle.std.specs.Prelude.{◌≤◌, length};
-
-use crate::problem::Problem;
+use crate::problem::{Fault, Problem};
 use answers::log::Log;
 use answers::table::Table;
 use answers::table::makes::TableFault;
-use formats::{AnswerLine, LineFault, RowLine};
-use std::alloc::Global;
+use formats::{AnswerLine, LineFault, RowLine, Token};
+use std::alloc::{AllocError, Global};
 use std::fs;
 
-// A table, the words that its lines name, and the line of each row.
+// The line of a row, and the word that it names.
+#[derive(Drop)]
+pub struct NamedRow {
+    pub line: usize,
+    pub word: Option<Vec<u32>>,
+}
+
 #[derive(Drop)]
 pub struct TableFile {
     pub table: Table,
-    pub words: Vec<Option<Vec<u32>>>,
-    pub lines: Vec<usize>,
+    pub rows: Vec<NamedRow>,
 }
 
-// Answers, and the line of each.
+// Answers, and the line of each; a log has no place for lines.
 #[derive(Drop)]
 pub struct AnswerFile {
     pub log: Log,
     pub lines: Vec<usize>,
 }
 
-// The rows of a table as they are read.
-#[derive(Drop)]
-struct Rows {
-    numbers: Vec<Vec<u32>>,
-    words: Vec<Option<Vec<u32>>>,
-    lines: Vec<usize>,
-}
-
-fn bad_line(heap: Global, path: &str, line: usize, text: &str) -> Problem {
-    match (String::from_str(heap, path), String::from_str(heap, text)) {
-        (Ok(path), Ok(text)) => Problem::Line(path, line, text),
-        _ => Problem::Memory,
-    }
-}
-
-fn bad_format(heap: Global, path: &str, line: usize, fault: LineFault) -> Problem {
-    match format!(in heap; "{fault}") {
-        Ok(text) => bad_line(heap, path, line, text.as_str()),
-        Err(_) => Problem::Memory,
-    }
-}
-
-fn read(rt: &HostRuntime, path: &str) -> Result<Vec<u8>, Problem> {
-    match fs::read(rt, path) {
-        Ok(bytes) => Ok(bytes),
-        Err(e) => Err(Problem::File(
-            String::from_str(rt.alloc(), path)?,
-            format!(in rt.alloc(); "{e}")?,
-        )),
-    }
-}
-
-// The lines of a file, counted from 1.
-#[derive(Drop)]
-struct Lines<'a> {
-    bytes: &'a [u8],
-    at: usize,
-    number: usize,
-}
-
-impl<'a> Lines<'a> {
-    fn next_line(&mut self) -> Option<&'a [u8]> {
-        let bytes = self.bytes;
-        let from = self.at;
-        if from >= bytes.len() {
-            return None;
-        }
-        let end = line_end(bytes, from);
-        self.at = end.saturating_add(1);
-        self.number = self.number.saturating_add(1);
-        Some(&bytes[from..end])
-    }
-}
-
-// Where the line that begins at `from` ends.
-fn line_end(bytes: &[u8], from: usize) -> usize
-    requires { from ≤ length bytes.now }
-    ensures low { from ≤ result }
-    ensures high { result ≤ length bytes.now }
-{
-    for i in from..bytes.len() {
-        if bytes[i] == b'\n' {
-            return i;
-        }
-    }
-    bytes.len()
-}
-
-// Takes one line of a table.
-fn take_row(
+// A file that is read, line by line. Lines are counted from 1.
+#[derive(Clone, Copy)]
+struct Source<'a> {
     heap: Global,
-    path: &str,
-    number: usize,
-    line: &[u8],
-    rows: &mut Rows,
-) -> Result<(), Problem> {
-    let tokens = match formats::tokens(heap, line) {
-        Ok(tokens) => tokens,
-        Err(fault) => return Err(bad_format(heap, path, number, fault)),
-    };
-    if tokens.is_empty() {
-        return Ok(());
-    }
-    match formats::row_line(heap, tokens.as_slice()) {
-        Ok(RowLine { numbers, word }) => {
-            rows.numbers.push(numbers)?;
-            rows.words.push(word)?;
-            rows.lines.push(number)?;
-            Ok(())
+    path: &'a str,
+}
+
+impl Source<'_> {
+    fn problem(&self, line: usize, fault: Fault) -> Problem {
+        match String::from_str(self.heap, self.path) {
+            Ok(path) => Problem::Line { path, line, fault },
+            Err(e) => Problem::Memory(e),
         }
-        Err(fault) => Err(bad_format(heap, path, number, fault)),
+    }
+
+    // Refuses a word with a key that the table does not have.
+    fn known_keys(&self, line: usize, word: &[u32], keys: usize) -> Result<(), Problem> {
+        match word.iter().find(|key| **key as usize >= keys) {
+            Some(key) => Err(self.problem(line, Fault::OtherKey { key: *key, keys })),
+            None => Ok(()),
+        }
+    }
+
+    fn read(&self, rt: &HostRuntime) -> Result<Vec<u8>, Problem> {
+        match fs::read(rt, self.path) {
+            Ok(bytes) => Ok(bytes),
+            Err(e) => Err(Problem::Unread(String::from_str(self.heap, self.path)?, e)),
+        }
+    }
+
+    // Reads each line that is not blank by `parse` and gives it to `take`, until one is bad.
+    fn each_line<
+        T,
+        P: Fn(&[Token]) -> Result<T, LineFault>,
+        F: FnMut(usize, T) -> Result<(), Problem>,
+    >(&self, rt: &HostRuntime, parse: P, mut take: F) -> Result<(), Problem>
+        requires parses { P.IsAlwaysCallable parse }
+        requires takes { F.IsAlwaysCallable take }
+    {
+        let bytes = self.read(rt)?;
+        for (i, text) in bytes.as_slice().split(|b| *b == b'\n').enumerate() {
+            let line = i + 1;
+            let bad = |fault: LineFault| self.problem(line, Fault::Format(fault));
+            let tokens = formats::tokens(self.heap, text).map_err(bad)?;
+            if !tokens.is_empty() {
+                let read = parse(tokens.as_slice()).map_err(bad)?;
+                take(line, read)?;
+            }
+        }
+        Ok(())
     }
 }
 
-// The line of a row.
-fn line_of(lines: &[usize], row: usize) -> usize {
-    lines.get(row).copied().unwrap_or(0)
-}
-
-// What is wrong with the rows of a table.
-fn bad_table(heap: Global, path: &str, rows: &Rows, fault: TableFault) -> Result<Problem, Problem> {
-    let lines = rows.lines.as_slice();
-    let width = match rows.numbers.first() {
-        Some(first) => first.len(),
-        None => 0,
-    };
-    let (line, text) = match fault {
-        TableFault::NoRows => return Ok(Problem::File(
-            String::from_str(heap, path)?,
-            String::from_str(
-                heap,
-                "expected a row: what it shows, then where each key leads",
-            )?,
-        )),
-        TableFault::ManyRows(count) => (
-            line_of(lines, 0),
-            format!(in heap; "expected at most 1048576 rows, found {count}")?,
-        ),
-        TableFault::NoKeys => (
-            line_of(lines, 0),
-            format!(in heap; "expected what the row shows and then where at least one key leads")?,
-        ),
-        TableFault::ManyKeys(count) => (
-            line_of(lines, 0),
-            format!(in heap; "expected at most 64 keys, found {count}")?,
-        ),
-        TableFault::Uneven(row) => (
-            line_of(lines, row.0),
-            format!(in heap; "expected {width} numbers, as in the first row")?,
-        ),
+// What is wrong with the rows of a table, and in which line.
+fn bad_table(
+    source: &Source<'_>,
+    numbers: &[Vec<u32>],
+    rows: &[NamedRow],
+    fault: TableFault,
+) -> Result<Problem, AllocError> {
+    let (row, fault) = match fault {
+        TableFault::NoRows => {
+            let path = String::from_str(source.heap, source.path)?;
+            return Ok(Problem::NoRows(path));
+        }
+        TableFault::ManyRows(count) => (0, Fault::ManyRows(count)),
+        TableFault::NoKeys => (0, Fault::NoKeys),
+        TableFault::ManyKeys(count) => (0, Fault::ManyKeys(count)),
+        TableFault::Uneven(row) => {
+            let width = numbers.first().map_or(0, |first| first.len());
+            (row.0, Fault::Uneven { width })
+        }
         TableFault::NoSuchRow(row, key) => {
-            let count = rows.numbers.len();
-            let key = key.0;
-            (
-                line_of(lines, row.0),
-                format!(in heap; "key {key} leads to no row; expected a number below {count}")?,
-            )
+            let rows = numbers.len();
+            (row.0, Fault::NoSuchRow { key: key.0, rows })
         }
-        TableFault::Memory => return Ok(Problem::Memory),
+        TableFault::Memory => return Ok(Problem::Memory(AllocError)),
     };
-    Ok(Problem::Line(String::from_str(heap, path)?, line, text))
+    let line = rows.get(row).map_or(0, |row| row.line);
+    Ok(source.problem(line, fault))
 }
 
-// The first key of the word that the table does not have.
-fn other_key(word: &[u32], keys: usize) -> Option<u32> {
-    for key in word {
-        if *key as usize >= keys {
-            return Some(*key);
-        }
-    }
-    None
-}
-
-// Refuses words with keys that the table does not have.
-fn known_keys(
-    heap: Global,
-    path: &str,
-    line: usize,
-    word: &[u32],
-    keys: usize,
-) -> Result<(), Problem> {
-    match other_key(word, keys) {
-        Some(key) => Err(Problem::Line(
-            String::from_str(heap, path)?,
-            line,
-            format!(in heap; "key {key} is none of the table's; expected keys below {keys}")?,
-        )),
-        None => Ok(()),
-    }
-}
-
-fn named_words_known(heap: Global, path: &str, rows: &Rows, keys: usize) -> Result<(), Problem> {
-    for (i, word) in rows.words.iter().enumerate() {
-        if let Some(word) = word {
-            known_keys(
-                heap,
-                path,
-                line_of(rows.lines.as_slice(), i),
-                word.as_slice(),
-                keys,
-            )?;
+fn named_words_known(source: &Source<'_>, rows: &[NamedRow], keys: usize) -> Result<(), Problem> {
+    for row in rows {
+        if let Some(word) = &row.word {
+            source.known_keys(row.line, word.as_slice(), keys)?;
         }
     }
     Ok(())
@@ -212,86 +120,47 @@ fn named_words_known(heap: Global, path: &str, rows: &Rows, keys: usize) -> Resu
 
 pub fn read_table(rt: &HostRuntime, path: &str) -> Result<TableFile, Problem> {
     let heap = rt.alloc();
-    let bytes = read(rt, path)?;
-    let mut rows = Rows {
-        numbers: Vec::new(heap),
-        words: Vec::new(heap),
-        lines: Vec::new(heap),
-    };
-    let mut lines = Lines {
-        bytes: bytes.as_slice(),
-        at: 0,
-        number: 0,
-    };
-    for _ in 0..bytes.len() {
-        let Some(line) = lines.next_line() else {
-            break;
-        };
-        take_row(heap, path, lines.number, line, &mut rows)?;
-    }
-    match Table::from_rows(heap, rows.numbers.as_slice()) {
-        Ok(table) => {
-            named_words_known(heap, path, &rows, table.keys())?;
-            let Rows {
-                numbers,
-                words,
-                lines,
-            } = rows;
-            drop(numbers);
-            Ok(TableFile {
-                table,
-                words,
-                lines,
-            })
-        }
-        Err(fault) => Err(bad_table(heap, path, &rows, fault)?),
-    }
-}
-
-// Takes one line of answers.
-fn take_answer(
-    heap: Global,
-    path: &str,
-    keys: usize,
-    number: usize,
-    line: &[u8],
-    told: &mut AnswerFile,
-) -> Result<(), Problem> {
-    let tokens = match formats::tokens(heap, line) {
-        Ok(tokens) => tokens,
-        Err(fault) => return Err(bad_format(heap, path, number, fault)),
-    };
-    if tokens.is_empty() {
-        return Ok(());
-    }
-    match formats::answer_line(heap, tokens.as_slice()) {
-        Ok(AnswerLine { word, shown }) => {
-            known_keys(heap, path, number, word.as_slice(), keys)?;
-            told.log.add(word, shown)?;
-            told.lines.push(number)?;
+    let source = Source { heap, path };
+    // Apart from the rows' lines and words, since a table is made of the numbers alone.
+    let mut numbers = Vec::new(heap);
+    let mut rows = Vec::new(heap);
+    source.each_line(
+        rt,
+        |tokens| formats::row_line(heap, tokens),
+        |line, row| {
+            let RowLine {
+                numbers: shown,
+                word,
+            } = row;
+            numbers.push(shown)?;
+            rows.push(NamedRow { line, word })?;
             Ok(())
+        },
+    )?;
+    match Table::from_rows(heap, numbers.as_slice()) {
+        Ok(table) => {
+            named_words_known(&source, rows.as_slice(), table.keys())?;
+            Ok(TableFile { table, rows })
         }
-        Err(fault) => Err(bad_format(heap, path, number, fault)),
+        Err(fault) => Err(bad_table(&source, numbers.as_slice(), rows.as_slice(), fault)?),
     }
 }
 
 pub fn read_answers(rt: &HostRuntime, path: &str, keys: usize) -> Result<AnswerFile, Problem> {
     let heap = rt.alloc();
-    let bytes = read(rt, path)?;
-    let mut told = AnswerFile {
-        log: Log::new(heap),
-        lines: Vec::new(heap),
-    };
-    let mut lines = Lines {
-        bytes: bytes.as_slice(),
-        at: 0,
-        number: 0,
-    };
-    for _ in 0..bytes.len() {
-        let Some(line) = lines.next_line() else {
-            break;
-        };
-        take_answer(heap, path, keys, lines.number, line, &mut told)?;
-    }
-    Ok(told)
+    let source = Source { heap, path };
+    let mut log = Log::new(heap);
+    let mut lines = Vec::new(heap);
+    source.each_line(
+        rt,
+        |tokens| formats::answer_line(heap, tokens),
+        |line, answer| {
+            let AnswerLine { word, shown } = answer;
+            source.known_keys(line, word.as_slice(), keys)?;
+            log.add(word, shown)?;
+            lines.push(line)?;
+            Ok(())
+        },
+    )?;
+    Ok(AnswerFile { log, lines })
 }

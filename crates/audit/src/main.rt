@@ -7,7 +7,7 @@ mod problem;
 mod show;
 
 use crate::problem::Problem;
-use std::env;
+use std::io;
 use std::process::ExitCode;
 
 const HELP: &str = "audit TABLE ANSWERS
@@ -33,31 +33,26 @@ from the word of every row but the one that the key leads to.
 
 The last line printed begins with 'borne out' or 'not borne out'.";
 
-fn run(rt: &HostRuntime) -> Result<(), Problem> {
-    let mut paths = Vec::new(rt.alloc());
-    for (i, argument) in env::args(rt)?.enumerate() {
-        if i > 0 {
-            paths.push(argument)?;
-        }
-    }
-    if paths.is_empty() || (paths.len() == 1 && paths[0].as_str() == "--help") {
-        println!(rt; "{HELP}")?;
-        return Ok(());
-    }
-    if paths.len() != 2 {
-        return Err(Problem::Usage);
-    }
-    let tables = files::read_table(rt, paths[0].as_str())?;
-    let told = files::read_answers(rt, paths[1].as_str(), tables.table.keys())?;
+fn help(rt: &HostRuntime) -> io::Result<()> {
+    println!(rt; "{HELP}")
+}
+
+fn audit(rt: &HostRuntime, table: &str, answers: &str) -> Result<(), Problem> {
+    let tables = files::read_table(rt, table)?;
+    let told = files::read_answers(rt, answers, tables.table.keys())?;
     show::all(rt, &tables, &told)
 }
 
-fn main(rt: HostRuntime) -> Result<ExitCode, Problem> {
-    match run(&rt) {
-        Ok(()) => Ok(ExitCode::SUCCESS),
-        Err(problem) => {
-            eprintln!(rt; "audit: {problem}")?;
-            Ok(ExitCode::FAILURE)
-        }
+fn run(rt: &HostRuntime) -> Result<(), Problem> {
+    let paths = console::arguments(rt)?;
+    match paths.as_slice() {
+        [] => Ok(help(rt)?),
+        [word] if word.as_str() == "--help" => Ok(help(rt)?),
+        [table, answers] => audit(rt, table.as_str(), answers.as_str()),
+        _ => Err(Problem::Usage),
     }
+}
+
+fn main(rt: HostRuntime) -> io::Result<ExitCode> {
+    console::status(&rt, "audit", run(&rt))
 }

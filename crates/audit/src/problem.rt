@@ -1,53 +1,47 @@
 // What can keep the program from a verdict, and how it is said.
-use std::alloc::{AllocError, AllocFailed};
-use std::{fmt, io};
+use formats::LineFault;
+use std::alloc::AllocError;
+use std::io;
+use thiserror::Error;
 use verdicts::report::AuditFault;
 
-#[derive(Debug, Drop)]
+#[derive(Debug, Drop, Error)]
 pub enum Problem {
+    #[error("expected two files, a table and its answers; audit --help says more")]
     Usage,
-    // A file, a line in it and what is wrong with it.
-    Line(String, usize, String),
-    // A file and what is wrong with it.
-    File(String, String),
-    Input(io::Error),
-    Memory,
+    #[error("{path}:{line}: {fault}")]
+    Line {
+        path: String,
+        line: usize,
+        fault: Fault,
+    },
+    #[error("{0}: expected a row: what it shows, then where each key leads")]
+    NoRows(String),
+    #[error("{0}: {1}")]
+    Unread(String, io::Error),
+    #[error(transparent)]
+    Output(#[from] io::Error),
+    #[error("out of memory")]
+    NoReport(#[from] AuditFault),
+    #[error("out of memory")]
+    Memory(#[from(alloc)] AllocError),
 }
 
-impl From<AllocError> for Problem {
-    fn from(_e: AllocError) -> Problem {
-        Problem::Memory
-    }
-}
-
-impl<T: Drop> From<AllocFailed<T>> for Problem {
-    fn from(_e: AllocFailed<T>) -> Problem {
-        Problem::Memory
-    }
-}
-
-impl From<io::Error> for Problem {
-    fn from(e: io::Error) -> Problem {
-        Problem::Input(e)
-    }
-}
-
-impl From<AuditFault> for Problem {
-    fn from(_e: AuditFault) -> Problem {
-        Problem::Memory
-    }
-}
-
-impl fmt::Display for Problem {
-    fn fmt<W: fmt::Write>(&self, f: &mut fmt::Formatter<W>) -> fmt::Result {
-        match self {
-            Problem::Usage => f.write_str(
-                "expected two files, a table and its answers; audit --help says more",
-            ),
-            Problem::Line(path, line, text) => write!(f, "{path}:{line}: {text}"),
-            Problem::File(path, text) => write!(f, "{path}: {text}"),
-            Problem::Input(e) => write!(f, "{e}"),
-            Problem::Memory => f.write_str("out of memory"),
-        }
-    }
+// What is wrong with a line of a file.
+#[derive(Debug, Drop, Error)]
+pub enum Fault {
+    #[error(transparent)]
+    Format(LineFault),
+    #[error("expected at most 1048576 rows, found {0}")]
+    ManyRows(usize),
+    #[error("expected what the row shows and then where at least one key leads")]
+    NoKeys,
+    #[error("expected at most 64 keys, found {0}")]
+    ManyKeys(usize),
+    #[error("expected {width} numbers, as in the first row")]
+    Uneven { width: usize },
+    #[error("key {key} leads to no row; expected a number below {rows}")]
+    NoSuchRow { key: u32, rows: usize },
+    #[error("key {key} is none of the table's; expected keys below {keys}")]
+    OtherKey { key: u32, keys: usize },
 }

@@ -2,6 +2,6 @@
 pub mod Later
 pub mod Covered
 pub mod Pushed
-pub mod Marks
+pub mod Reached
 pub mod Visits
 pub mod Steps

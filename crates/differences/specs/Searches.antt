@@ -1,22 +1,19 @@
 -- How far a search through pairs of rows has come, told by the words that lead to the pairs.
-use Rattle.std.specs.Prelude.{◌≡◌, ℕ, ◌+◌, ◌*◌, ◌<◌, Bool, true, false, ◌⊎◌, List, [], ◌∷◌, ◌++◌, length, get_or, vec_items, ◌≢◌, slice_index_or, slice_set}
+use Rattle.std.specs.Prelude.{◌≡◌, ℕ, ◌<◌, Bool, true, false, cond, ◌⊎◌, List, [], ◌∷◌, ◌++◌, length, vec_items, ◌≢◌, slice_index_or, Some, None, Option}
+use Rattle.std.specs.HashSet.{contains}
 use Rattle.machines.specs.Words.{Word, Keys, Less}
 use Rattle.machines.specs.Tables.{walk, shows}
 use Rattle.answers.specs.declared.table.Table.{Table}
-use Rattle.answers.specs.Values.{keys_of, rows_of, cells_of}
-use Rattle.differences.specs.declared.pairs.Pair.{Pair}
+use Rattle.answers.specs.Values.{keys_of, cells_of}
+use Rattle.differences.specs.declared.search.Step.{Step}
 use Rattle.differences.specs.declared.search.Visit.{Visit}
 use Rattle.differences.specs.declared.search.Search.{Search}
+use Rattle.differences.specs.Pairs.{rows_in, same_rows}
 use Rattle.differences.specs.Differences.{FirstDifference}
-
--- Both tables have the rows of a pair.
-pub record Inside (one other : Table) (p : Pair) : Type 0 where
-  pub one_in : p.one.0 < rows_of one
-  pub other_in : p.other.0 < rows_of other
 
 -- The visit with which a search begins, at the first rows; it is also what is read past the end of a list of visits.
 abbrev pub begin_visit : Visit
-begin_visit = record { pair = record { one = record { 0 = 0 }; other = record { 0 = 0 } }; from = 0; key = 0 }
+begin_visit = record { pair = record { one = record { 0 = 0 }; other = record { 0 = 0 } }; step = None }
 
 -- The visit at a place.
 abbrev pub visit_at : List Visit → ℕ → Visit
@@ -26,29 +23,31 @@ visit_at visits p = slice_index_or visits p begin_visit
 abbrev pub word_at : List Word → ℕ → Word
 word_at ws p = slice_index_or ws p []
 
--- The visits have these words: the first the empty word, any other that of an earlier visit with its own key behind it.
+-- The word at a place is the empty one if no step leads there, else that of an earlier place with the step's key behind it.
+abbrev pub Spelt : List Word → ℕ → Option Step → Type 0
+Spelt ws p None = word_at ws p ≡ []
+Spelt ws p (Some s) = (s.from < p) × (word_at ws p ≡ word_at ws s.from ++ (s.key ∷ []))
+
+-- The visits have these words, by their steps.
 pub record Linked (visits : List Visit) (ws : List Word) : Type 0 where
   pub long : length ws ≡ length visits
   pub some : 0 < length visits
-  pub empty : word_at ws 0 ≡ []
-  pub back : (p : ℕ) → 0 < p → p < length visits → (visit_at visits p).from < p
-  pub along : (p : ℕ) → 0 < p → p < length visits → word_at ws p ≡ word_at ws (visit_at visits p).from ++ ((visit_at visits p).key ∷ [])
+  pub spelt : (p : ℕ) → p < length visits → Spelt ws p (visit_at visits p).step
 
 -- The pair of each visit has the rows that its word leads to.
 pub record Paired (k : ℕ) (a b : List ℕ) (visits : List Visit) (ws : List Word) : Type 0 where
   pub one_is : (p : ℕ) → p < length visits → (visit_at visits p).pair.one.0 ≡ walk k a 0 (word_at ws p)
   pub other_is : (p : ℕ) → p < length visits → (visit_at visits p).pair.other.0 ≡ walk k b 0 (word_at ws p)
 
--- The number of the pair of rows that a word leads to.
-abbrev pub number_of : ℕ → ℕ → List ℕ → List ℕ → Word → ℕ
-number_of k n a b w = walk k a 0 w * n + walk k b 0 w
+-- The rows that a word leads to in both tables.
+abbrev pub rows_at : ℕ → List ℕ → List ℕ → Word → ℕ × ℕ
+rows_at k a b w = (walk k a 0 w, walk k b 0 w)
 
--- Each pair that a word leads to is marked and no other, and no two words lead to one pair.
-pub record Marked (k m n : ℕ) (a b : List ℕ) (ws : List Word) (marks : List Bool) : Type 0 where
-  pub long : length marks ≡ m * n
-  pub marked : (p : ℕ) → p < length ws → slice_index_or marks (number_of k n a b (word_at ws p)) false ≡ true
-  pub visited : (i : ℕ) → slice_index_or marks i false ≡ true → (p : ℕ) × (p < length ws) × (number_of k n a b (word_at ws p) ≡ i)
-  pub distinct : (p q : ℕ) → p < q → q < length ws → number_of k n a b (word_at ws p) ≢ number_of k n a b (word_at ws q)
+-- The rows that each word leads to are among these and no others are, and no two words lead to the same.
+pub record Reached (k : ℕ) (a b : List ℕ) (ws : List Word) (among : ℕ × ℕ → Bool) : Type 0 where
+  pub each : (p : ℕ) → p < length ws → among (rows_at k a b (word_at ws p)) ≡ true
+  pub only : (x : ℕ × ℕ) → among x ≡ true → (p : ℕ) × (p < length ws) × (rows_at k a b (word_at ws p) ≡ x)
+  pub distinct : (p q : ℕ) → p < q → q < length ws → rows_at k a b (word_at ws p) ≢ rows_at k a b (word_at ws q)
 
 -- A word is another or comes before it, shorter words first.
 abbrev pub NoLater : Word → Word → Type 0
@@ -71,26 +70,33 @@ pub record Explored (k : ℕ) (a b : List ℕ) (ws : List Word) (at x : ℕ) : T
   pub done : (p y : ℕ) → p < length ws → y < k → (p < at) ⊎ ((p ≡ at) × (y < x)) → StandsFor k a b ws (word_at ws p ++ (y ∷ []))
   pub ahead : at < length ws → (p : ℕ) → p < length ws → Less (word_at ws p) (word_at ws at ++ (x ∷ []))
 
+-- Whether a search has visited these rows.
+abbrev pub has_visited : Search → ℕ × ℕ → Bool
+has_visited s x = contains same_rows s.visited x
+
 -- A search of two tables has come to key x of the visit at place `at`, with these words.
 pub record Searched (one other : Table) (s : Search) (ws : List Word) (at x : ℕ) : Type 0 where
   pub linked : Linked (vec_items s.visits) ws
   pub paired : Paired (keys_of one) (cells_of one) (cells_of other) (vec_items s.visits) ws
-  pub marked : Marked (keys_of one) (rows_of one) (rows_of other) (cells_of one) (cells_of other) ws (vec_items s.marks)
+  pub reached : Reached (keys_of one) (cells_of one) (cells_of other) ws (has_visited s)
   pub explored : Explored (keys_of one) (cells_of one) (cells_of other) ws at x
 
--- A search of two tables has come to key x of the visit at place `at`, if there is such a visit.
-abbrev pub ComeTo : Table → Table → Search → ℕ → ℕ → Type 0
-ComeTo one other s at x = (ws : List Word) × Searched one other s ws at x
+-- A search has come to key x of the visit at place `at`, if there is such a visit.
+abbrev pub ComeTo : Search → ℕ → ℕ → Type 0
+ComeTo s at x = (ws : List Word) × Searched s.product.one.now s.product.other.now s ws at x
 
--- A search of two tables has come to key x of the visit at place `at`, and there is such a visit.
-abbrev pub GoingOn : Table → Table → Search → ℕ → ℕ → Type 0
-GoingOn one other s at x = (at < length (vec_items s.visits)) × ComeTo one other s at x
+-- A search has come to key x of the visit at place `at`, and there is such a visit.
+abbrev pub GoingOn : Search → ℕ → ℕ → Type 0
+GoingOn s at x = (at < length (vec_items s.visits)) × ComeTo s at x
 
 -- The word of the visit at place `at` with key x behind it is the first after which the tables show different things.
-abbrev pub EndsWith : Table → Table → Search → ℕ → ℕ → Type 0
-EndsWith one other s at x = (at < length (vec_items s.visits)) × ((ws : List Word) × Linked (vec_items s.visits) ws × FirstDifference (keys_of one) (cells_of one) (cells_of other) (word_at ws at ++ (x ∷ [])))
+abbrev pub EndsWith : Search → ℕ → ℕ → Type 0
+EndsWith s at x =
+    (at < length (vec_items s.visits))
+    × ((ws : List Word) × Linked (vec_items s.visits) ws × FirstDifference (keys_of s.product.one.now) (cells_of s.product.one.now) (cells_of s.product.other.now) (word_at ws at ++ (x ∷ [])))
 
--- A visit is put behind the others and the mark of its number set, unless that was set.
-pub record Visited (v : Visit) (i : ℕ) (s s' : Search) : Type 0 where
-  pub known : get_or (vec_items s.marks) i false ≡ true → (vec_items s'.visits ≡ vec_items s.visits) × (vec_items s'.marks ≡ vec_items s.marks)
-  pub new : get_or (vec_items s.marks) i false ≡ false → (vec_items s'.visits ≡ vec_items s.visits ++ (v ∷ [])) × (vec_items s'.marks ≡ slice_set (vec_items s.marks) i true)
+-- The rows of a visit are among those visited, and the visit is put behind the others, unless they were before.
+pub record Visited (v : Visit) (s s' : Search) : Type 0 where
+  pub among : (x : ℕ × ℕ) → has_visited s' x ≡ cond (same_rows (rows_in v.pair) x) true (has_visited s x)
+  pub known : has_visited s (rows_in v.pair) ≡ true → vec_items s'.visits ≡ vec_items s.visits
+  pub new : has_visited s (rows_in v.pair) ≡ false → vec_items s'.visits ≡ vec_items s.visits ++ (v ∷ [])

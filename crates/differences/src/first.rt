@@ -3,29 +3,22 @@ ghost use Rattle.std.specs.Prelude.{◌≡◌, MatchResult};
 ghost use Rattle.differences.specs.Differences.{Answered, Refused};
 ghost use Rattle.differences.specs.declared.first.DifferenceFault.TheVariants.{Memory};
 
-use crate::{pairs, search};
+use crate::product::{FIRST, Product};
+use crate::search;
 use answers::table::Table;
 use std::alloc::{AllocError, Global};
-use std::fmt;
+use thiserror::Error;
 
 // Why there is no answer.
-#[derive(Debug, Drop)]
+#[derive(Debug, Drop, Error)]
 pub enum DifferenceFault {
+    #[error("the tables are for different numbers of keys")]
     DifferentKeys,
+    #[error("out of memory")]
     Memory,
 }
 
-impl fmt::Display for DifferenceFault {
-    fn fmt<W: fmt::Write>(&self, f: &mut fmt::Formatter<W>) -> fmt::Result {
-        match self {
-            DifferenceFault::DifferentKeys => {
-                f.write_str("the tables are for different numbers of keys")
-            }
-            DifferenceFault::Memory => f.write_str("out of memory"),
-        }
-    }
-}
-
+// By hand, since contracts name the fault that `?` gives.
 impl From<AllocError> for DifferenceFault {
     ghost from_gives = { λ _ r. r ≡ Memory };
 
@@ -42,11 +35,9 @@ pub fn first_difference(
 ) -> Result<Option<Vec<u32>>, DifferenceFault>
     ensures { MatchResult result (Answered one.now other.now) (Refused one.now other.now) }
 {
-    if one.keys() != other.keys() {
-        return Err(DifferenceFault::DifferentKeys);
-    }
-    if !pairs::alike(one, other, pairs::FIRST) {
+    let product = Product::of(one, other).ok_or(DifferenceFault::DifferentKeys)?;
+    if !product.alike(FIRST) {
         return Ok(Some(Vec::new(heap)));
     }
-    Ok(search::explore(heap, one, other)?)
+    Ok(search::explore(heap, product)?)
 }

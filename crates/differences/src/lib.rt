@@ -2,7 +2,7 @@
 #![tactic(auto)]
 
 pub mod first;
-mod pairs;
+mod product;
 mod search;
 #[cfg(test)]
 mod tests;

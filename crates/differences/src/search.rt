@@ -6,94 +6,87 @@ ghost use Rattle.answers.specs.Values.{keys_of, cells_of};
 ghost use Rattle.differences.specs.Differences.{Found};
 ghost use Rattle.differences.specs.Searches.{Linked, word_at, Visited, ComeTo, GoingOn, EndsWith};
 
-use crate::pairs;
-use crate::pairs::Pair;
-use answers::table::Table;
+use crate::product::{FIRST, Pair, Product};
 use std::alloc::{AllocError, Global};
+use std::collections::HashSet;
 
-// A pair of rows, to which the key leads from the pair of an earlier visit.
+// The key leads on from the pair of an earlier visit.
 #[derive(Clone, Copy)]
-pub(crate) struct Visit {
-    pair: Pair,
+pub(crate) struct Step {
     from: usize,
     key: u32,
 }
 
-// The visits in the order of their words, and a mark for each pair of rows that was visited, by its number.
-#[derive(Drop)]
-pub(crate) struct Search {
-    visits: Vec<Visit>,
-    marks: Vec<bool>,
+// A pair of rows, and the step that leads to it; none leads to the first.
+#[derive(Clone, Copy)]
+pub(crate) struct Visit {
+    pair: Pair,
+    step: Option<Step>,
 }
 
-impl Search {
-    // One visit more, unless the pair with that number was visited.
-    fn visit(&mut self, number: usize, visit: Visit) -> Result<(), AllocError>
-        requires { number < vec_len self.old.marks }
-        ensures { OnOk result (Visited visit number self.old self.new) }
+// The visits in the order of their words, and the pairs of rows that were visited.
+#[derive(Drop)]
+pub(crate) struct Search<'a> {
+    product: Product<'a>,
+    visits: Vec<Visit>,
+    visited: HashSet<(usize, usize)>,
+}
+
+impl<'a> Search<'a> {
+    // One visit more, unless its pair was visited.
+    fn visit(&mut self, visit: Visit) -> Result<(), AllocError>
+        ensures product { self.new.product ≡ self.old.product }
+        ensures visit { OnOk result (Visited visit self.old self.new) }
     {
-        if !self.marks[number] {
-            self.marks[number] = true;
+        if self.visited.insert(visit.pair.rows())? {
             self.visits.push(visit)?;
         }
         Ok(())
     }
 
     // A search at the first rows, which show the same.
-    fn begin(heap: Global, one: &Table, other: &Table) -> Result<Search, AllocError>
-        requires { shows (keys_of one.now) (cells_of one.now) [] ≡ shows (keys_of one.now) (cells_of other.now) [] }
-        ensures { IfOk result (λ s. ComeTo one.now other.now s 0 0) }
+    fn begin(heap: Global, product: Product<'a>) -> Result<Search<'a>, AllocError>
+        requires { shows (keys_of product.one.now) (cells_of product.one.now) [] ≡ shows (keys_of product.one.now) (cells_of product.other.now) [] }
+        ensures product { IfOk result (λ s. s.product ≡ product.entry) }
+        ensures search { IfOk result (λ s. ComeTo s 0 0) }
     {
         let mut search = Search {
+            product,
             visits: Vec::new(heap),
-            marks: vec![in heap; false; one.rows() * other.rows()]?,
+            visited: HashSet::new(heap),
         };
         let visit = Visit {
-            pair: pairs::FIRST,
-            from: 0,
-            key: 0,
+            pair: FIRST,
+            step: None,
         };
-        search.visit(0, visit)?;
+        search.visit(visit)?;
         Ok(search)
     }
 
     // Visits the pair to which the key leads from the visit at the place, if its rows show the same; whether they do.
-    fn follow(
-        &mut self,
-        one: &Table,
-        other: &Table,
-        at: usize,
-        key: u32,
-    ) -> Result<bool, AllocError>
-        requires alike { keys_of one.now ≡ keys_of other.now }
-        requires key { key < keys_of one.now }
-        requires sofar { GoingOn one.now other.now self.old at key }
-        ensures { IfOk result (λ alike. MatchBool alike (GoingOn one.now other.now self.new at (key + 1)) (EndsWith one.now other.now self.new at key)) }
+    fn follow(&mut self, at: usize, key: u32) -> Result<bool, AllocError>
+        requires key { key < keys_of self.old.product.one.now }
+        requires sofar { GoingOn self.old at key }
+        ensures product { self.new.product ≡ self.old.product }
+        ensures sofar { IfOk result (λ alike. MatchBool alike (GoingOn self.new at (key + 1)) (EndsWith self.new at key)) }
     {
-        let pair = pairs::follow(one, other, self.visits[at].pair, key);
-        if !pairs::alike(one, other, pair) {
+        let pair = self.product.follow(self.visits[at].pair, key);
+        if !self.product.alike(pair) {
             return Ok(false);
         }
-        let number = pairs::number(one, other, pair);
-        self.visit(
-            number,
-            Visit {
-                pair,
-                from: at,
-                key,
-            },
-        )?;
+        let step = Some(Step { from: at, key });
+        self.visit(Visit { pair, step })?;
         Ok(true)
     }
 
     // Follows the keys from the visit at the place; the first that leads to rows which show different things.
-    fn expand(&mut self, one: &Table, other: &Table, at: usize) -> Result<Option<u32>, AllocError>
-        requires alike { keys_of one.now ≡ keys_of other.now }
-        requires sofar { GoingOn one.now other.now self.old at 0 }
-        ensures { IfOk result (λ found. MatchOption found (ComeTo one.now other.now self.new (at + 1) 0) (EndsWith one.now other.now self.new at)) }
+    fn expand(&mut self, at: usize) -> Result<Option<u32>, AllocError>
+        requires { GoingOn self.old at 0 }
+        ensures product { self.new.product ≡ self.old.product }
+        ensures sofar { IfOk result (λ found. MatchOption found (ComeTo self.new (at + 1) 0) (EndsWith self.new at)) }
     {
-        for key in 0..one.keys() as u32 {
-            if !self.follow(one, other, at, key)? {
+        for key in 0..self.product.keys() {
+            if !self.follow(at, key)? {
                 return Ok(Some(key));
             }
         }
@@ -109,10 +102,9 @@ impl Search {
         let mut word = Vec::new(heap);
         word.push(key)?;
         let mut place = at;
-        while place > 0 {
-            let visit = self.visits[place];
-            word.push(visit.key)?;
-            place = visit.from;
+        while let Some(step) = self.visits[place].step {
+            word.push(step.key)?;
+            place = step.from;
         }
         word.reverse();
         Ok(word)
@@ -120,19 +112,15 @@ impl Search {
 }
 
 // The first word after which the two tables show different things, if it is not the empty one.
-pub(crate) fn explore(
-    heap: Global,
-    one: &Table,
-    other: &Table,
-) -> Result<Option<Vec<u32>>, AllocError>
-    requires alike { keys_of one.now ≡ keys_of other.now }
-    requires first { shows (keys_of one.now) (cells_of one.now) [] ≡ shows (keys_of one.now) (cells_of other.now) [] }
-    ensures { IfOk result (Found (keys_of one.now) (cells_of one.now) (cells_of other.now)) }
+pub(crate) fn explore(heap: Global, product: Product) -> Result<Option<Vec<u32>>, AllocError>
+    requires { shows (keys_of product.one.now) (cells_of product.one.now) [] ≡ shows (keys_of product.one.now) (cells_of product.other.now) [] }
+    ensures { IfOk result (Found (keys_of product.entry.one.now) (cells_of product.entry.one.now) (cells_of product.entry.other.now)) }
 {
-    let mut search = Search::begin(heap, one, other)?;
+    let mut search = Search::begin(heap, product)?;
     let mut at = 0;
+    // Each turn may put further visits behind the others, so nothing iterates over them.
     while at < search.visits.len() {
-        if let Some(key) = search.expand(one, other, at)? {
+        if let Some(key) = search.expand(at)? {
             return Ok(Some(search.word_to(heap, at, key)?));
         }
         at += 1;

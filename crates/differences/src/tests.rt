@@ -5,10 +5,7 @@ use std::alloc::Global;
 use std::test::Fail;
 
 fn table(heap: Global, rows: &[Vec<u32>]) -> Result<Table, Fail> {
-    match Table::from_rows(heap, rows) {
-        Ok(table) => Ok(table),
-        Err(_) => Err(Fail::new("no table")),
-    }
+    Table::from_rows(heap, rows).map_err(|_| Fail::new("no table"))
 }
 
 // Key 1 changes what is shown.

@@ -1,19 +1,32 @@
--- What a function of the tokens that are left is, where the next one is known. Assumes nothing.
-use Rattle.std.proofs.Common.{◌≡◌, ℕ, ◌+◌, ◌-◌, ◌<◌, List, [], ◌∷◌, length, get_or, take, drop, Some, Ok, Result, sym, ap, ◌∙◌}
-use Rattle.std.proofs.lemmas.List.{at_drop_more, take_rest}
-use Rattle.formats.specs.declared.faults.LineFault.{LineFault}
+-- What a reader of tokens makes of the numbers that they begin with.
+use Rattle.std.proofs.Common.{◌≡◌, ℕ, List, [], ◌∷◌, ◌++◌, map, append-nil, append_assoc, refl, ap, ◌∙◌}
 use Rattle.formats.specs.declared.scan.Token.{Token}
 use Rattle.formats.specs.declared.scan.Token.TheVariants.{Number, Colon, At}
-use Rattle.formats.specs.Calls.{◌then◌}
-use Rattle.formats.specs.Lines.{one_shown, answer_on, word_on, row_of, row_on}
+use Rattle.formats.specs.Lines.{answer_on, word_on, row_on}
+use Rattle.formats.specs.Numbers.{BeginsWithNoNumber, IsNumbersThen}
 
-module _ (ts : List Token) (i : ℕ) (lt : i < length ts) where
-  pub at_token : {Y : Type 0} (F : List Token → Y) (t : Token) → get_or ts i (Number 0) ≡ t → F (drop i ts) ≡ F (t ∷ drop (i + 1) ts)
-  at_token F t e = at_drop_more F ts i (Number 0) lt ∙ ap (λ x. F (x ∷ drop (i + 1) ts)) e
+-- A reader F that keeps each number keeps all of them.
+kept : {Y : Type 0} (F : List ℕ → List Token → Y) → ((w : List ℕ) (k : ℕ) (ts : List Token) → F w (Number k ∷ ts) ≡ F (w ++ k ∷ []) ts) → (w ns : List ℕ) (ts : List Token) → F w (map Number ns ++ ts) ≡ F (w ++ ns) ts
+kept F one w [] ts = rw append-nil
+kept F one w (n ∷ ns) ts = one w n (map Number ns ++ ts) ∙ kept F one (w ++ n ∷ []) ns ts ∙ rw append_assoc
 
-  -- `take (length ts - (i + 1)) (drop (i + 1) ts)` is `&tokens[i + 1..]`
-  pub at_colon : (w : List ℕ) (r : Result ℕ LineFault) → get_or ts i (Number 0) ≡ Colon → r ≡ one_shown (take (length ts - (i + 1)) (drop (i + 1) ts)) → answer_on w (drop i ts) ≡ (r then (λ n. Ok (record { word = w; shown = n })))
-  at_colon w r e told = at_token (answer_on w) Colon e ∙ ap (λ s. s then (λ n. Ok (record { word = w; shown = n }))) (sym (told ∙ ap one_shown (take_rest ts (i + 1))))
+module _ (ts : List Token) (ns : List ℕ) (rest : List Token) (cut : IsNumbersThen ts ns rest) where
+  pub answer_after : answer_on [] ts ≡ answer_on ns rest
+  answer_after = ap (answer_on []) cut.whole ∙ kept answer_on (λ w k us. refl) [] ns rest
 
-  pub at_at : (ns : List ℕ) (r : Result (List ℕ) LineFault) → get_or ts i (Number 0) ≡ At → word_on [] (take (length ts - (i + 1)) (drop (i + 1) ts)) ≡ r → row_on ns (drop i ts) ≡ (r then (λ w. row_of ns (Some w)))
-  at_at ns r e told = at_token (row_on ns) At e ∙ ap (λ s. s then (λ w. row_of ns (Some w))) (sym (ap (word_on []) (take_rest ts (i + 1))) ∙ told)
+  pub word_after : word_on [] ts ≡ word_on ns rest
+  word_after = ap (word_on []) cut.whole ∙ kept word_on (λ w k us. refl) [] ns rest
+
+  pub row_after : row_on [] ts ≡ row_on ns rest
+  row_after = ap (row_on []) cut.whole ∙ kept row_on (λ w k us. refl) [] ns rest
+
+-- A mark that is not one is the other.
+pub is_at : (t : Token) (us : List Token) → BeginsWithNoNumber (t ∷ us) → (t ≡ Colon → ⊥) → t ≡ At
+is_at (Number n) us none other = absurd none
+is_at Colon us none other = absurd (other refl)
+is_at At us none other = refl
+
+pub is_colon : (t : Token) (us : List Token) → BeginsWithNoNumber (t ∷ us) → (t ≡ At → ⊥) → t ≡ Colon
+is_colon (Number n) us none other = absurd none
+is_colon Colon us none other = refl
+is_colon At us none other = absurd (other refl)

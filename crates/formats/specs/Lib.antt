@@ -1,3 +1,5 @@
 pub mod Calls
 pub mod Lines
+pub mod Numbers
 pub mod Tokens
+pub mod Words

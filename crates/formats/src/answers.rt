@@ -4,6 +4,7 @@ ghost use Rattle.formats.specs.Calls.{Gives};
 ghost use Rattle.formats.specs.Lines.{answer_in, line_answer, one_shown};
 
 use crate::faults::LineFault;
+use crate::numbers::leading_numbers;
 use crate::scan::Token;
 use std::alloc::Global;
 
@@ -29,16 +30,15 @@ fn one_shown(tokens: &[Token]) -> Result<u32, LineFault>
 pub fn answer_line(heap: Global, tokens: &[Token]) -> Result<AnswerLine, LineFault>
     ensures { Gives answer_in result (line_answer tokens.now) }
 {
-    let mut word = Vec::new(heap);
-    for (i, token) in tokens.iter().enumerate() {
-        match token {
-            Token::Number(key) => word.push(*key)?,
-            Token::Colon => {
-                let shown = one_shown(&tokens[i + 1..])?;
-                return Ok(AnswerLine { word, shown });
-            }
-            Token::At => return Err(LineFault::AtInAnswer),
+    let (word, rest) = leading_numbers(heap, tokens)?;
+    let Some((mark, after)) = rest.split_first() else {
+        return Err(LineFault::NoColon);
+    };
+    match mark {
+        Token::Colon => {
+            let shown = one_shown(after)?;
+            Ok(AnswerLine { word, shown })
         }
+        _ => Err(LineFault::AtInAnswer),
     }
-    Err(LineFault::NoColon)
 }

@@ -3,56 +3,40 @@ ghost use Rattle.std.specs.Prelude.{◌≡◌};
 ghost use Rattle.formats.specs.declared.faults.LineFault.TheVariants.{Memory};
 
 use std::alloc::AllocFailed;
-use std::fmt;
+use thiserror::Error;
 
 // Columns are counted from 1.
-#[derive(Debug, Drop)]
+#[derive(Debug, Drop, Error)]
 pub enum LineFault {
+    #[error("column {0}: expected a digit, a blank, ':', '@' or '#'")]
     OtherCharacter(usize),
+    #[error("column {0}: a number above 4294967295")]
     LargeNumber(usize),
+    #[error("expected ':' and then what was shown")]
     NoColon,
+    #[error("expected one ':', and after it a number")]
     SecondColon,
+    #[error("expected keys, ':' and what was shown; '@' belongs to tables")]
     AtInAnswer,
+    #[error("expected what was shown, a number, after ':'")]
     NothingShown,
+    #[error("expected one number after ':'")]
     MuchShown,
+    #[error("expected what the row shows, a number, first")]
     NoNumber,
+    #[error("expected numbers and then perhaps '@' and a word; ':' belongs to answers")]
     ColonInRow,
+    #[error("expected one '@' at most, and after it a word")]
     SecondAt,
+    #[error("out of memory")]
     Memory,
 }
 
+// By hand, since the contracts of the readers name the fault that `?` makes.
 impl<T: Drop> From<AllocFailed<T>> for LineFault {
     ghost from_gives = { λ _ r. r ≡ Memory };
 
     fn from(_e: AllocFailed<T>) -> LineFault {
         LineFault::Memory
-    }
-}
-
-impl fmt::Display for LineFault {
-    fn fmt<W: fmt::Write>(&self, f: &mut fmt::Formatter<W>) -> fmt::Result {
-        match self {
-            LineFault::OtherCharacter(column) => write!(
-                f,
-                "column {column}: expected a digit, a blank, ':', '@' or '#'"
-            ),
-            LineFault::LargeNumber(column) => write!(
-                f,
-                "column {column}: a number above 4294967295"
-            ),
-            LineFault::NoColon => f.write_str("expected ':' and then what was shown"),
-            LineFault::SecondColon => f.write_str("expected one ':', and after it a number"),
-            LineFault::AtInAnswer => f.write_str(
-                "expected keys, ':' and what was shown; '@' belongs to tables",
-            ),
-            LineFault::NothingShown => f.write_str("expected what was shown, a number, after ':'"),
-            LineFault::MuchShown => f.write_str("expected one number after ':'"),
-            LineFault::NoNumber => f.write_str("expected what the row shows, a number, first"),
-            LineFault::ColonInRow => f.write_str(
-                "expected numbers and then perhaps '@' and a word; ':' belongs to answers",
-            ),
-            LineFault::SecondAt => f.write_str("expected one '@' at most, and after it a word"),
-            LineFault::Memory => f.write_str("out of memory"),
-        }
     }
 }

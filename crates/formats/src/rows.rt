@@ -5,6 +5,7 @@ ghost use Rattle.formats.specs.Lines.{line_row, row_in, row_of, word_on};
 ghost use Rattle.std.specs.Option.{option_map};
 
 use crate::faults::LineFault;
+use crate::numbers::leading_numbers;
 use crate::scan::Token;
 use std::alloc::Global;
 
@@ -27,30 +28,28 @@ fn row_of(numbers: Vec<u32>, word: Option<Vec<u32>>) -> Result<RowLine, LineFaul
 fn last_word(heap: Global, tokens: &[Token]) -> Result<Vec<u32>, LineFault>
     ensures { Gives vec_items result (word_on [] tokens.now) }
 {
-    let mut word = Vec::new(heap);
-    for token in tokens {
-        match token {
-            Token::Number(key) => word.push(*key)?,
-            Token::Colon => return Err(LineFault::ColonInRow),
-            Token::At => return Err(LineFault::SecondAt),
-        }
+    let (word, rest) = leading_numbers(heap, tokens)?;
+    let Some((mark, _)) = rest.split_first() else {
+        return Ok(word);
+    };
+    match mark {
+        Token::At => Err(LineFault::SecondAt),
+        _ => Err(LineFault::ColonInRow),
     }
-    Ok(word)
 }
 
 pub fn row_line(heap: Global, tokens: &[Token]) -> Result<RowLine, LineFault>
     ensures { Gives row_in result (line_row tokens.now) }
 {
-    let mut numbers = Vec::new(heap);
-    for (i, token) in tokens.iter().enumerate() {
-        match token {
-            Token::Number(number) => numbers.push(*number)?,
-            Token::Colon => return Err(LineFault::ColonInRow),
-            Token::At => {
-                let word = last_word(heap, &tokens[i + 1..])?;
-                return row_of(numbers, Some(word));
-            }
+    let (numbers, rest) = leading_numbers(heap, tokens)?;
+    let Some((mark, after)) = rest.split_first() else {
+        return row_of(numbers, None);
+    };
+    match mark {
+        Token::At => {
+            let word = last_word(heap, after)?;
+            row_of(numbers, Some(word))
         }
+        _ => Err(LineFault::ColonInRow),
     }
-    row_of(numbers, None)
 }

@@ -6,7 +6,7 @@ ghost use Rattle.formats.specs.Tokens.{kind, closed, next, held, line_tokens};
 use crate::faults::LineFault;
 use std::alloc::Global;
 
-#[derive(Clone, Copy)]
+#[derive(Clone, Copy, Debug, PartialEq, Eq)]
 pub enum Token {
     Number(u32),
     Colon,
@@ -54,22 +54,18 @@ impl Reader {
     {
         let before = self.digits.unwrap_or(Digits { value: 0, column });
         let value = u64::from(before.value) * 10 + u64::from(digit);
-        if value > u64::from(u32::MAX) {
+        let Ok(value) = u32::try_from(value) else {
             return Err(LineFault::LargeNumber(before.column));
-        }
-        self.digits = Some(Digits {
-            value: value as u32,
-            column: before.column,
-        });
+        };
+        self.digits = Some(Digits { value, ..before });
         Ok(())
     }
 
     fn end_number(&mut self) -> Result<(), LineFault>
         ensures { Gives (λ _. held self.new) result (Ok (closed (held self.old))) }
     {
-        if let Some(digits) = self.digits {
+        if let Some(digits) = self.digits.take() {
             self.tokens.push(Token::Number(digits.value))?;
-            self.digits = None;
         }
         Ok(())
     }

@@ -83,3 +83,18 @@ fn rows(rt: HostRuntime) -> Result<(), Fail> {
     }
     Ok(())
 }
+
+#[test]
+fn words(rt: HostRuntime) -> Result<(), Fail> {
+    let heap = rt.alloc();
+    let cases: [(&[u32], &str, &str); 3] = [
+        (&[], "", "(empty)"),
+        (&[0], "0", "0"),
+        (&[12, 0, 4294967295], "12 0 4294967295", "12 0 4294967295"),
+    ];
+    for (keys, numbers, word) in cases {
+        assert_eq!(rt; Numbers(keys).to_string(heap)?.as_str(), numbers);
+        assert_eq!(rt; Word(keys).to_string(heap)?.as_str(), word);
+    }
+    Ok(())
+}

@@ -16,7 +16,6 @@ use Rattle.promises.specs.Runs.{tells, refutes}
 use Rattle.promises.proofs.Replays.{replayed, holds_all}
 use Rattle.promises.proofs.Refutations.{finer_words}
 use Rattle.promises.proofs.Taking.{takes_answers}
-use Rattle.answers.specs.declared.table.Table.{Table}
 use Rattle.answers.specs.Values.{keys_of, cells_of}
 use Rattle.store.specs.Reading.{state_of}
 use Rattle.store.proofs.Doors.{stores_stand}
@@ -24,6 +23,7 @@ use Rattle.game.specs.declared.transcript.Counterexample.{Counterexample}
 use Rattle.game.specs.declared.transcript.Transcript.{Transcript}
 use Rattle.game.specs.Counterexamples.{Refutation, refutation_of, refuted_of, Refuting, Counters, Adds}
 use Rattle.game.specs.Courses.{Course, Looked, most_of, most_in, words_of, refuted_in}
+use Rattle.game.specs.declared.referee.Referee.{Referee}
 use Rattle.game.specs.Endings.{Onward}
 use Rattle.game.proofs.Counting.{refuted_count, fine_fits, answers_few}
 
@@ -121,8 +121,9 @@ module _ {k n : ℕ} {machine w : List ℕ} {t : Transcript} {cs : List Call} (c
 
 -- A course with one more word told of goes on.
 pub onward :
-    {m : Table} {w y : List ℕ} {t t' : Transcript} {cs : List Call} → Course (keys_of m) (most_in w) (cells_of m) y t' cs → words_of t' ≡ words_of t + 1
-    → Onward m w y t t'
-onward {m = m} {y = y} {t' = t'} {cs = cs} course more =
+    {r r' : Referee} {w y : List ℕ} {cs : List Call} → r'.machine.now ≡ r.machine.now → Course (keys_of r'.machine.now) (most_in w) (cells_of r'.machine.now) y r'.transcript cs
+    → words_of r'.transcript ≡ words_of r.transcript + 1 → Onward r r' w y
+onward {r' = r'} {y = y} {cs = cs} machine course more =
+    let m = r'.machine.now in
     let e = course_most course in
-    record { going = (cs, subst (λ (n : ℕ). Course (keys_of m) n (cells_of m) y t' cs) (sym e) course); most = e; more = more }
+    record { machine = machine; going = (cs, subst (λ (n : ℕ). Course (keys_of m) n (cells_of m) y r'.transcript cs) (sym e) course); most = e; more = more }

@@ -1,6 +1,6 @@
 -- The table that is looked at, and where its numbers stand.
-use Rattle.std.proofs.Common.{◌≡◌, ℕ, ◌+◌, ◌-◌, ◌*◌, ◌≤◌, List, length, take, vec_items, sym, ap, ◌∙◌, subst, arith}
-use Rattle.std.proofs.lemmas.List.{length-take, length_push}
+use Rattle.std.proofs.Common.{◌≡◌, ℕ, List, length, vec_items, Err, sym, ap, ◌∙◌, subst, arith}
+use Rattle.std.proofs.lemmas.List.{length_push}
 use Rattle.promises.specs.declared.Given.{Given}
 use Rattle.promises.specs.declared.Given.TheVariants.{Taken}
 use Rattle.promises.specs.Calls.{Call}
@@ -12,23 +12,11 @@ use Rattle.store.specs.Reading.{state_of}
 use Rattle.game.specs.declared.transcript.Counterexample.{Counterexample}
 use Rattle.game.specs.declared.transcript.Transcript.{Transcript}
 use Rattle.game.specs.Counterexamples.{refutation_of, refuted_of, Counters, TableNumbers, Adds}
-use Rattle.game.specs.declared.turns.Ending.{Ending}
+use Rattle.game.specs.declared.referee.Loss.{Loss}
+use Rattle.game.specs.declared.referee.Referee.{Referee}
 use Rattle.game.specs.Courses.{Course, Looked, most_in}
 use Rattle.game.specs.Endings.{Onward, Ended}
 use Rattle.game.proofs.Courses.{course_stands, course_full, course_corrected, onward}
-
-module _ {k n : ℕ} {machine : List ℕ} {rows : ℕ} {cs : List Call} (o : List ℕ) (e : ℕ) (size : e ≡ rows * (k + 1)) (look : Looked k n machine rows (take (rows * (k + 1)) o) cs) where
-  -- It stands within out.
-  pub look_within : e ≤ length o
-  look_within = omega (arith, size, look.borne.1.borne.sound.long, length-take (rows * (k + 1)) o)
-
-  -- The part of out that begins with it is its numbers.
-  pub look_part : take (e - 0) o ≡ take (rows * (k + 1)) o
-  look_part = let z : e - 0 ≡ rows * (k + 1) = omega (arith, size) in ap (λ (i : ℕ). take i o) z
-
-  -- What is a counterexample to that part is one to the table.
-  pub look_counter : {x : Counterexample} → Counters k machine (take (e - 0) o) x → Counters k machine (take (rows * (k + 1)) o) x
-  look_counter {x = x} counter = subst (λ (z : List ℕ). Counters k machine z x) look_part counter
 
 -- These numbers make a table.
 pub look_numbers : {k n : ℕ} {machine w : List ℕ} {t : Transcript} {rows : ℕ} {numbers : List ℕ} {cs : List Call} → Course k n machine w t cs → Looked k n machine rows numbers cs → TableNumbers k numbers
@@ -41,16 +29,17 @@ module _ (m : Table) {n : ℕ} {w : List ℕ} {t : Transcript} {cs : List Call} 
     (course : Course (keys_of m) n (cells_of m) w t cs) (look : Looked (keys_of m) n (cells_of m) rows numbers cs) (counter : Counters (keys_of m) (cells_of m) numbers x) (is : u ≡ vec_items x.word)
   where
     -- The game ends where the word is not taken.
-    pub look_full : (y o : List ℕ) (r : Given) → RefutedSays state_of (state_of w) (length w) u x.shown w y r → (r ≡ Taken → ⊥) → Ended m n y o t (Ending.Full x)
+    pub look_full : (y o : List ℕ) (r : Given) → RefutedSays state_of (state_of w) (length w) u x.shown w y r → (r ≡ Taken → ⊥) → Ended m n y o t (Err (Loss.Full x))
     look_full y o r says kept =
         let full = course_full course y r look counter (subst (λ (z : List ℕ). RefutedSays state_of (state_of w) (length w) z x.shown w y r) is says) kept in
-        subst (λ (z : List ℕ). Ended m n z o t (Ending.Full x)) (sym full.1) (cs, course, look.at.waits, sym (counter.hypothesis ∙ look.at.same), counter.refuting, full.0)
+        subst (λ (z : List ℕ). Ended m n z o t (Err (Loss.Full x))) (sym full.1) (cs, course, look.at.waits, sym (counter.hypothesis ∙ look.at.same), counter.refuting, full.0)
 
 -- It goes on where the word is taken.
 pub look_taken :
-    {m : Table} {w : List ℕ} {t t' : Transcript} {cs : List Call} {rows : ℕ} {numbers : List ℕ} {x : Counterexample} {u : List ℕ} → Course (keys_of m) (most_in w) (cells_of m) w t cs
-    → Looked (keys_of m) (most_in w) (cells_of m) rows numbers cs → Counters (keys_of m) (cells_of m) numbers x → u ≡ vec_items x.word → (y : List ℕ) → length y ≡ length w
-    → RefutedSays state_of (state_of w) (length w) u x.shown w y Taken → Adds x t t' → Onward m w y t t'
-look_taken {w = w} {t = t} {x = x} course look counter is y long says adds =
-    onward (course_corrected course y long look counter (subst (λ (z : List ℕ). RefutedSays state_of (state_of w) (length w) z x.shown w y Taken) is says) adds)
-    (omega (arith, adds.asked, ap length adds.refuted, length_push (refuted_of t) (refutation_of x)))
+    {r r' : Referee} {w : List ℕ} {cs : List Call} {rows : ℕ} {numbers : List ℕ} {x : Counterexample} {u : List ℕ} → r'.machine.now ≡ r.machine.now
+    → Course (keys_of r'.machine.now) (most_in w) (cells_of r'.machine.now) w r.transcript cs → Looked (keys_of r'.machine.now) (most_in w) (cells_of r'.machine.now) rows numbers cs
+    → Counters (keys_of r'.machine.now) (cells_of r'.machine.now) numbers x → u ≡ vec_items x.word → (y : List ℕ) → length y ≡ length w
+    → RefutedSays state_of (state_of w) (length w) u x.shown w y Taken → Adds x r.transcript r'.transcript → Onward r r' w y
+look_taken {r = r} {w = w} {x = x} machine course look counter is y long says adds =
+    onward machine (course_corrected course y long look counter (subst (λ (z : List ℕ). RefutedSays state_of (state_of w) (length w) z x.shown w y Taken) is says) adds)
+    (omega (arith, adds.asked, ap length adds.refuted, length_push (refuted_of r.transcript) (refutation_of x)))

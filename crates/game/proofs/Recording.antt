@@ -1,5 +1,5 @@
 -- From the course of a game to what is said of it at its beginning and its end.
-use Rattle.std.proofs.Common.{◌≡◌, ℕ, ◌+◌, ◌*◌, List, [], ◌∷◌, length, sym, refl, ap, ◌∙◌, subst, arith, MatchResult}
+use Rattle.std.proofs.Common.{◌≡◌, ℕ, ◌+◌, ◌*◌, List, [], ◌∷◌, length, Ok, Err, Result, sym, refl, ap, ◌∙◌, subst, arith, MatchResult}
 use Rattle.std.specs.List.{AllByRecursion}
 use Rattle.std.proofs.lemmas.List.Sums.{sum_by_push}
 use Rattle.machines.specs.Tables.{shows}
@@ -16,7 +16,8 @@ use Rattle.answers.specs.declared.table.Table.{Table}
 use Rattle.answers.specs.Values.{keys_of, cells_of}
 use Rattle.store.specs.Reading.{state_of}
 use Rattle.game.specs.declared.transcript.Transcript.{Transcript}
-use Rattle.game.specs.declared.turns.Ending.{Ending}
+use Rattle.game.specs.declared.referee.Loss.{Loss}
+use Rattle.game.specs.declared.referee.Referee.{Referee}
 use Rattle.game.specs.Counterexamples.{Refutation, Refuting, Empty}
 use Rattle.game.specs.Courses.{with_refutation, refuted_in, Course, most_in}
 use Rattle.game.specs.Endings.{Going, Ended}
@@ -53,8 +54,11 @@ recorded {k} {n} {machine} {w} {t} {cs} course =
     }
 
 -- A store that was begun is one with which a game begins.
-pub game_begins : (m : Table) (k n room : ℕ) (w w' : List ℕ) (t : Transcript) → k ≡ keys_of m → BeganPost state_of k n room w w' Began.Ready → Empty t → Going m w' t × (most_in w' ≡ n)
-game_begins m k n room w w' t is began empty =
+pub game_begins :
+    (r : Referee) (m : Table) (k n room : ℕ) (w w' : List ℕ) → r.machine.now ≡ m → k ≡ keys_of m → BeganPost state_of k n room w w' Began.Ready → Empty r.transcript
+    → Going r w' × (most_in w' ≡ n)
+game_begins r m k n room w w' same is began empty =
+    let t = r.transcript in
     let b = subst (λ (q : ℕ). BeganPost state_of q n room w w' Began.Ready) is began in
     let course : Course (keys_of m) n (cells_of m) w' t [] =
     record {
@@ -65,8 +69,13 @@ game_begins m k n room w w' t is began empty =
       refuted = sym empty.refuted;
       each = subst (AllByRecursion (Refuting (keys_of m) (cells_of m))) (sym empty.refuted) tt;
     } in
-    let most = course_most course in
-    (([], subst (λ (z : ℕ). Course (keys_of m) z (cells_of m) w' t []) (sym most) course), most)
+    let most = course_most course in (
+      (
+        [],
+        subst (λ (z : Table). Course (keys_of z) (most_in w') (cells_of z) w' t []) (sym same) (subst (λ (z : ℕ). Course (keys_of m) z (cells_of m) w' t []) (sym most) course),
+      ),
+      most,
+    )
 
 -- Only a store that is long enough is begun.
 pub game_fits : (m : Table) (k n room : ℕ) (w w' : List ℕ) → k ≡ keys_of m → BeganPost state_of k n room w w' Began.Ready → Fit m n room w
@@ -77,9 +86,9 @@ game_fits m k n room w w' is began unfit =
 
 -- What is said of a game follows from how it ended.
 pub game_ends :
-    (m : Table) (n room : ℕ) (w₀ w o₀ o : List ℕ) (t : Transcript) → Fit m n room w₀ → (e : Ending) → Ended m n w o t e
+    (m : Table) (n room : ℕ) (w₀ w o₀ o : List ℕ) (t : Transcript) → Fit m n room w₀ → (e : Result ℕ Loss) → Ended m n w o t e
     → MatchResult (finished e t) (Learnt m n room w₀ w o) (Failed m n room w₀ w o₀ o)
-game_ends m n room w₀ w o₀ o t fit (Ending.Learnt rows) (cs, course, look, right) =
+game_ends m n room w₀ w o₀ o t fit (Ok rows) (cs, course, look, right) =
     record {
       fit = fit;
       calls = cs;
@@ -92,8 +101,8 @@ game_ends m n room w₀ w o₀ o t fit (Ending.Learnt rows) (cs, course, look, r
       fewer = omega (arith, look.fewer, course_refuted course);
       looked = look.at;
     }
-game_ends m n room w₀ w o₀ o t fit Ending.Larger (cs, course, larger) = (fit, record { calls = cs; recorded = recorded course; larger = larger })
-game_ends m n room w₀ w o₀ o t fit Ending.Short (cs, course, short) = (fit, record { calls = cs; recorded = recorded course; short = short })
-game_ends m n room w₀ w o₀ o t fit (Ending.Full x) (cs, course, waits, looked, differs, full) =
+game_ends m n room w₀ w o₀ o t fit (Err Loss.Larger) (cs, course, larger) = (fit, record { calls = cs; recorded = recorded course; larger = larger })
+game_ends m n room w₀ w o₀ o t fit (Err Loss.Short) (cs, course, short) = (fit, record { calls = cs; recorded = recorded course; short = short })
+game_ends m n room w₀ w o₀ o t fit (Err (Loss.Full x)) (cs, course, waits, looked, differs, full) =
     (fit, record { calls = cs; recorded = recorded course; waits = waits; looked = looked; refuting = differs; full = full })
-game_ends m n room w₀ w o₀ o t fit Ending.Memory ended = fit
+game_ends m n room w₀ w o₀ o t fit (Err Loss.Memory) ended = fit

@@ -1,5 +1,5 @@
 -- What a step wants in the course of a game.
-use Rattle.std.proofs.Common.{◌≡◌, ℕ, ◌+◌, ◌-◌, ◌*◌, ◌<◌, ◌≤◌, ◌⊎◌, List, ◌∷◌, length, take, Some, None, Option, sym, refl, ap, ◌∙◌, subst, inl, inr, arith}
+use Rattle.std.proofs.Common.{◌≡◌, ℕ, ◌+◌, ◌*◌, ◌<◌, ◌≤◌, ◌⊎◌, List, ◌∷◌, length, take, Some, None, Ok, Err, Option, Result, sym, refl, ap, ◌∙◌, subst, inl, inr, arith}
 use mathlib.Core.Option.{some}
 use Rattle.std.proofs.lemmas.List.{length-take}
 use Rattle.std.proofs.lemmas.Bool.{cases_lt}
@@ -18,9 +18,10 @@ use Rattle.answers.specs.declared.table.Table.{Table}
 use Rattle.answers.specs.Values.{keys_of, cells_of}
 use Rattle.store.specs.Reading.{state_of}
 use Rattle.game.specs.declared.transcript.Transcript.{Transcript}
-use Rattle.game.specs.declared.turns.Ending.{Ending}
+use Rattle.game.specs.declared.referee.Referee.{Referee}
+use Rattle.game.specs.declared.referee.Loss.{Loss}
 use Rattle.game.specs.Courses.{Course, Looked, most_in}
-use Rattle.game.specs.Endings.{Asked, Showing, Ended, Turned}
+use Rattle.game.specs.Endings.{Asked, Showing, Onward, Ended, Turned}
 use Rattle.game.proofs.Courses.{course_holds, course_most}
 
 module _ {k n : ℕ} {machine w : List ℕ} {t : Transcript} {cs : List Call} (course : Course k n machine w t cs) (x o o' : List ℕ) where
@@ -40,8 +41,11 @@ module _ {k n : ℕ} {machine w : List ℕ} {t : Transcript} {cs : List Call} (c
       }
 
   -- A word asked about stands within out.
+  pub ask_whole : (l : ℕ) → NextSays state_of (state_of w) w x o o' (Ask l) → l ≡ length (take l o')
+  ask_whole l says = sym (said (Ask l) says).0.whole
+
   pub ask_within : (l : ℕ) → NextSays state_of (state_of w) w x o o' (Ask l) → l ≤ length o'
-  ask_within l says = omega (arith, (said (Ask l) says).0.whole, length-take l o')
+  ask_within l says = omega (arith, ask_whole l says, length-take l o')
 
   pub ask_keys : (l : ℕ) → NextSays state_of (state_of w) w x o o' (Ask l) → Keys k (take l o')
   ask_keys l says = subst (λ (q : ℕ). Keys q (take l o')) (replayed k n cs).keys (said (Ask l) says).0.keys
@@ -81,27 +85,37 @@ module _ {k n : ℕ} {machine w : List ℕ} {t : Transcript} {cs : List Call} (c
       let short : length o < out_words k n t.letters = rw ((replayed k n cs).keys, (replayed k n cs).most, (replayed k n cs).refuted, course.lengths) at (said Short says).0 in
       omega (arith, short, ap length (said Short says).2)
 
-module _ (m : Table) {w : List ℕ} {t : Transcript} {cs : List Call} (course : Course (keys_of m) (most_in w) (cells_of m) w t cs) (x o o' : List ℕ) (long : length x ≡ length w) where
+module _ (r : Referee) {w : List ℕ} {cs : List Call} (course : Course (keys_of r.machine.now) (most_in w) (cells_of r.machine.now) w r.transcript cs) (x o o' : List ℕ) (long : length x ≡ length w) where
+  abbrev k : ℕ
+  k = keys_of r.machine.now
+
+  abbrev cells : List ℕ
+  cells = cells_of r.machine.now
+
   -- The most states stay.
   pub step_most : (q : Wanted) → NextSays state_of (state_of w) w x o o' q → most_in x ≡ most_in w
   step_most q says = course_most (step_course course x o o' q says long)
 
-  pub step_asks : (l : ℕ) → NextSays state_of (state_of w) w x o o' (Ask l) → Asked m x (take (l - 0) o') t
+  pub step_asks : (l : ℕ) → NextSays state_of (state_of w) w x o o' (Ask l) → Asked r x (take l o')
   step_asks l says =
-      let whole : l - 0 ≡ l = omega arith in
-      subst (λ (z : ℕ). Asked m x (take z o') t) (sym whole)
-      (subst
-      (λ (n : ℕ).
-      (cs : List Call) × Course (keys_of m) n (cells_of m) x t cs × ((replay (keys_of m) n cs).waits ≡ 1) × ((replay (keys_of m) n cs).asked ≡ take l o') × Keys (keys_of m) (take l o'))
-      (sym (step_most (Ask l) says))
-      (stepped o o' (Ask l) ∷ cs, step_course course x o o' (Ask l) says long, refl, refl, ask_keys course x o o' l says))
+      subst (λ (n : ℕ). (cs : List Call) × Course k n cells x r.transcript cs × ((replay k n cs).waits ≡ 1) × ((replay k n cs).asked ≡ take l o') × Keys k (take l o')) (sym (step_most (Ask l) says))
+      (stepped o o' (Ask l) ∷ cs, step_course course x o o' (Ask l) says long, refl, refl, ask_keys course x o o' l says)
 
-  pub step_shows : (rows : ℕ) → NextSays state_of (state_of w) w x o o' (Wanted.Table rows) → Showing m x rows (take (rows * (keys_of m + 1)) o') t
+  pub step_shows : (rows : ℕ) → NextSays state_of (state_of w) w x o o' (Wanted.Table rows) → Showing r x rows (take (rows * (k + 1)) o')
   step_shows rows says =
-      subst (λ (n : ℕ). (cs : List Call) × Course (keys_of m) n (cells_of m) x t cs × Looked (keys_of m) n (cells_of m) rows (take (rows * (keys_of m + 1)) o') cs) (sym (step_most (Wanted.Table rows) says))
+      subst (λ (n : ℕ). (cs : List Call) × Course k n cells x r.transcript cs × Looked k n cells rows (take (rows * (k + 1)) o') cs) (sym (step_most (Wanted.Table rows) says))
       (stepped o o' (Wanted.Table rows) ∷ cs, step_course course x o o' (Wanted.Table rows) says long, table_looked course x o o' rows says)
 
 -- What came of a step comes of the round.
-pub turned_from : (m : Table) (w x y o : List ℕ) (t t' : Transcript) (r : Option Ending) → most_in x ≡ most_in w → Turned m x y o t t' r → Turned m w y o t t' r
-turned_from m w x y o t t' None e h = record { going = h.going; most = h.most ∙ e; more = h.more }
-turned_from m w x y o t t' (Some ending) e h = subst (λ (n : ℕ). Ended m n y o t' ending) e h
+pub onward_from : {r r' : Referee} {w x y : List ℕ} → most_in x ≡ most_in w → Onward r r' x y → Onward r r' w y
+onward_from e h = record { machine = h.machine; going = h.going; most = h.most ∙ e; more = h.more }
+
+pub turned_from : (r r' : Referee) (w x y o : List ℕ) (q : Result (Option ℕ) Loss) → most_in x ≡ most_in w → Turned r r' x y o q → Turned r r' w y o q
+turned_from r r' w x y o (Ok None) e h = onward_from e h
+turned_from r r' w x y o (Ok (Some rows)) e h = subst (λ (n : ℕ). Ended r.machine.now n y o r'.transcript (Ok rows)) e h
+turned_from r r' w x y o (Err loss) e h = subst (λ (n : ℕ). Ended r.machine.now n y o r'.transcript (Err loss)) e h
+
+-- How the last round ended is how the game did.
+pub ended_since :
+    (m m' : Table) (n n' : ℕ) (w o : List ℕ) (t : Transcript) (q : Result ℕ Loss) → m' ≡ m → n' ≡ n → Ended m' n' w o t q → Ended m n w o t q
+ended_since m m' n n' w o t q machine most h = subst (λ (z : Table). Ended z n w o t q) machine (subst (λ (z : ℕ). Ended m' z w o t q) most h)

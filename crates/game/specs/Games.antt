@@ -15,7 +15,7 @@ use Rattle.answers.specs.Values.{keys_of, cells_of}
 use Rattle.store.specs.Reading.{state_of}
 use Rattle.game.specs.declared.transcript.Counterexample.{Counterexample}
 use Rattle.game.specs.declared.transcript.Transcript.{Transcript}
-use Rattle.game.specs.declared.turns.Ending.{Ending}
+use Rattle.game.specs.declared.referee.Loss.{Loss}
 use Rattle.game.specs.declared.playing.Game.{Game}
 use Rattle.game.specs.declared.playing.GameFault.{GameFault}
 use Rattle.game.specs.declared.playing.GameFault.TheVariants.{Few, Short, Full, Larger, Memory}
@@ -23,12 +23,12 @@ use Rattle.game.specs.Counterexamples.{Refutation, refutation_of, refuted_of, Re
 use Rattle.game.specs.Courses.{Course, words_of}
 
 -- What comes of a game by how it ended.
-abbrev pub finished : Ending → Transcript → Result Game GameFault
-finished (Ending.Learnt rows) t = Ok (record { rows = rows; transcript = t })
-finished Ending.Larger t = Err (Larger t)
-finished Ending.Short t = Err (Short t)
-finished (Ending.Full x) t = Err (Full t x)
-finished Ending.Memory t = Err Memory
+abbrev pub finished : Result ℕ Loss → Transcript → Result Game GameFault
+finished (Ok rows) t = Ok (record { rows = rows; transcript = t })
+finished (Err Loss.Larger) t = Err (Larger t)
+finished (Err Loss.Short) t = Err (Short t)
+finished (Err (Loss.Full x)) t = Err (Full t x)
+finished (Err Loss.Memory) t = Err Memory
 
 -- How many letters the refuting words have in all.
 abbrev pub letters_of : List Refutation → ℕ

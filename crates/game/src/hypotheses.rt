@@ -1,5 +1,5 @@
 // Looks for a word after which a machine does not show what a table shows.
-ghost use Rattle.std.specs.Prelude.{◌≡◌, ℕ, ◌≤◌, IfOk, MatchOption};
+ghost use Rattle.std.specs.Prelude.{◌≡◌, IfOk, MatchOption};
 ghost use Rattle.machines.specs.Tables.{shows, Same};
 ghost use Rattle.answers.specs.Values.{keys_of, cells_of};
 ghost use Rattle.differences.specs.Differences.{Found};
@@ -18,13 +18,11 @@ fn table_of(heap: Global, keys: usize, numbers: &[u32]) -> Result<Table, AllocEr
     ensures keys { IfOk result (λ t. keys_of t ≡ keys) }
     ensures cells { IfOk result (λ t. cells_of t ≡ numbers.now) }
 {
-    match Table::from_numbers(heap, keys, numbers) {
-        Ok(table) => Ok(table),
-        Err(fault) => match fault {
-            TableFault::Memory => Err(AllocError),
-            _ => unreachable(),
-        },
-    }
+    Table::from_numbers(heap, keys, numbers).map_err(
+        |_fault: TableFault|
+            requires { _fault ≡ TableFault.Memory }
+        { AllocError },
+    )
 }
 
 // The first word after which the two tables, which are for as many keys, show different things.
@@ -32,11 +30,11 @@ fn difference(heap: Global, one: &Table, other: &Table) -> Result<Option<Vec<u32
     requires { keys_of one.now ≡ keys_of other.now }
     ensures { IfOk result (Found (keys_of other.now) (cells_of one.now) (cells_of other.now)) }
 {
-    match first::first_difference(heap, one, other) {
-        Ok(word) => Ok(word),
-        Err(DifferenceFault::Memory) => Err(AllocError),
-        Err(DifferenceFault::DifferentKeys) => unreachable(),
-    }
+    first::first_difference(heap, one, other).map_err(
+        |_fault: DifferenceFault|
+            requires { _fault ≡ DifferenceFault.Memory }
+        { AllocError },
+    )
 }
 
 // The first word after which the machine does not show what the table with these numbers shows, and what it shows then.

@@ -3,8 +3,8 @@
 
 mod hypotheses;
 mod playing;
+mod referee;
 mod transcript;
-mod turns;
 
 pub use playing::{Game, GameFault, play};
 pub use transcript::{Counterexample, Transcript};

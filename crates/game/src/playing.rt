@@ -2,9 +2,8 @@
 ghost use Rattle.std.specs.Prelude.{◌≡◌, MatchResult};
 ghost use Rattle.game.specs.Games.{finished, Learnt, Failed};
 
+use crate::referee::{Loss, Referee};
 use crate::transcript::{Counterexample, Transcript};
-use crate::turns;
-use crate::turns::Ending;
 use answers::table::Table;
 use promises::Began;
 use std::alloc::Global;
@@ -27,15 +26,15 @@ pub enum GameFault {
 }
 
 // The game that ended so.
-fn finish(ending: Ending, transcript: Transcript) -> Result<Game, GameFault>
-    ensures { result ≡ finished ending transcript }
+fn finish(ended: Result<usize, Loss>, transcript: Transcript) -> Result<Game, GameFault>
+    ensures { result ≡ finished ended transcript }
 {
-    match ending {
-        Ending::Learnt(rows) => Ok(Game { rows, transcript }),
-        Ending::Larger => Err(GameFault::Larger(transcript)),
-        Ending::Short => Err(GameFault::Short(transcript)),
-        Ending::Full(found) => Err(GameFault::Full(transcript, found)),
-        Ending::Memory => Err(GameFault::Memory),
+    match ended {
+        Ok(rows) => Ok(Game { rows, transcript }),
+        Err(Loss::Larger) => Err(GameFault::Larger(transcript)),
+        Err(Loss::Short) => Err(GameFault::Short(transcript)),
+        Err(Loss::Full(found)) => Err(GameFault::Full(transcript, found)),
+        Err(Loss::Memory) => Err(GameFault::Memory),
     }
 }
 
@@ -53,7 +52,7 @@ pub fn play(
     let Began::Ready = store::begin(machine.keys() as u32, most, room, store) else {
         return Err(GameFault::Few);
     };
-    let mut transcript = Transcript::new(heap);
-    let ending = turns::play_on(heap, machine, store, out, &mut transcript);
-    finish(ending, transcript)
+    let mut referee = Referee::new(heap, machine);
+    let ended = referee.play_on(store, out);
+    finish(ended, referee.transcript)
 }

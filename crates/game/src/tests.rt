@@ -8,10 +8,7 @@ use std::test::Fail;
 const COUNTER: [u32; 14] = [9, 1, 0, 2, 0, 3, 0, 4, 0, 5, 0, 6, 0, 0];
 
 fn counter(heap: Global) -> Result<Table, Fail> {
-    match Table::from_numbers(heap, 1, &COUNTER) {
-        Ok(table) => Ok(table),
-        Err(_) => Err(Fail::new("no table")),
-    }
+    Table::from_numbers(heap, 1, &COUNTER).map_err(|_| Fail::new("no table"))
 }
 
 // How a game against the counter ends, with so many states allowed and so many words lent.

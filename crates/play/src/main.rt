@@ -7,7 +7,9 @@ mod show;
 
 use crate::boxes::{EXAMPLES, Example};
 use crate::problem::Problem;
+use crate::show::Printer;
 use answers::table::Table;
+use std::io;
 use std::process::ExitCode;
 
 // The words of the store: 3.5 MiB.
@@ -25,27 +27,27 @@ fn play(
     store: &mut [u32],
     out: &mut [u32],
 ) -> Result<(), Problem> {
-    let machine = Table::from_numbers(rt.alloc(), example.keys, example.numbers)?;
-    show::heading(rt, example)?;
+    let machine = Table::from_numbers(rt.alloc(), example.keys, example.numbers).map_err(
+        |_| Problem::NoTable,
+    )?;
+    let printer = Printer {
+        rt,
+        machine: &machine,
+    };
+    printer.heading(example)?;
     let game = game::play(rt.alloc(), &machine, example.most, ROOM, store, out);
-    show::game(rt, &machine, game, out)
+    printer.game(game, out)
 }
 
 fn run(rt: &HostRuntime) -> Result<(), Problem> {
     let mut store = vec![in rt.alloc(); 0u32; STORE]?;
     let mut out = vec![in rt.alloc(); 0u32; OUT]?;
-    for example in EXAMPLES {
-        play(rt, &example, store.as_mut_slice(), out.as_mut_slice())?;
+    for example in &EXAMPLES {
+        play(rt, example, store.as_mut_slice(), out.as_mut_slice())?;
     }
     Ok(())
 }
 
-fn main(rt: HostRuntime) -> Result<ExitCode, Problem> {
-    match run(&rt) {
-        Ok(()) => Ok(ExitCode::SUCCESS),
-        Err(problem) => {
-            eprintln!(rt; "play: {problem}")?;
-            Ok(ExitCode::FAILURE)
-        }
-    }
+fn main(rt: HostRuntime) -> io::Result<ExitCode> {
+    console::status(&rt, "play", run(&rt))
 }

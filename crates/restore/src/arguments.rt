@@ -1,70 +1,29 @@
 // Reads the program's arguments.
-use std::alloc::{AllocError, AllocFailed};
-use std::{fmt, io};
+use std::alloc::AllocError;
+use std::io;
+use thiserror::Error;
 
 // What is wrong with them.
-#[derive(Debug, Drop)]
+#[derive(Debug, Drop, Error)]
 pub enum Wrong {
+    #[error("expected KEYS and STATES; restore --help says more")]
     Usage,
+    #[error("expected a number of digits, at most 4294967295")]
     NoNumber,
-    // Keys, states, and the most states that fit, 0 if none.
-    TooLarge(u32, u32, u32),
-    Input(io::Error),
-    Memory,
+    #[error("{0} keys: expected 1 to 64")]
+    OtherKeys(u32),
+    #[error("{states} states do not fit; with {keys} keys, 1 to {most} states do")]
+    TooLarge { keys: u32, states: u32, most: u32 },
+    #[error(transparent)]
+    Input(#[from] io::Error),
+    #[error("out of memory")]
+    Memory(#[from(alloc)] AllocError),
 }
 
-impl From<AllocError> for Wrong {
-    fn from(_e: AllocError) -> Wrong {
-        Wrong::Memory
-    }
-}
-
-impl<T: Drop> From<AllocFailed<T>> for Wrong {
-    fn from(_e: AllocFailed<T>) -> Wrong {
-        Wrong::Memory
-    }
-}
-
-impl From<io::Error> for Wrong {
-    fn from(e: io::Error) -> Wrong {
-        Wrong::Input(e)
-    }
-}
-
-impl fmt::Display for Wrong {
-    fn fmt<W: fmt::Write>(&self, f: &mut fmt::Formatter<W>) -> fmt::Result {
-        match self {
-            Wrong::Usage => f.write_str("expected KEYS and STATES; restore --help says more"),
-            Wrong::NoNumber => f.write_str("expected a number of digits, at most 4294967295"),
-            Wrong::TooLarge(keys, _, 0) => write!(f, "{keys} keys: expected 1 to 64"),
-            Wrong::TooLarge(keys, states, most) => write!(
-                f,
-                "{states} states do not fit; with {keys} keys, 1 to {most} states do"
-            ),
-            Wrong::Input(e) => write!(f, "{e}"),
-            Wrong::Memory => f.write_str("out of memory"),
-        }
-    }
-}
-
-// A number of decimal digits.
+// A number of decimal digits; `parse` alone would take a sign too.
 pub fn number(text: &str) -> Result<u32, Wrong> {
-    if text.is_empty() {
+    if !text.bytes().all(|b| b.is_ascii_digit()) {
         return Err(Wrong::NoNumber);
     }
-    let mut value: u32 = 0;
-    for b in text.bytes() {
-        if !b.is_ascii_digit() {
-            return Err(Wrong::NoNumber);
-        }
-        let digit = u32::from(b.saturating_sub(b'0'));
-        value = match value.checked_mul(10) {
-            Some(tens) => match tens.checked_add(digit) {
-                Some(sum) => sum,
-                None => return Err(Wrong::NoNumber),
-            },
-            None => return Err(Wrong::NoNumber),
-        };
-    }
-    Ok(value)
+    text.parse().map_err(|_| Wrong::NoNumber)
 }

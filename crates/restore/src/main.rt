@@ -3,9 +3,9 @@
 
 mod arguments;
 
-use crate::arguments::Wrong;
+use crate::arguments::{Wrong, number};
 use promises::Began;
-use std::env;
+use std::io;
 use std::process::ExitCode;
 
 // The words of the store: 3.5 MiB, which leaves half a MiB for all else.
@@ -19,7 +19,10 @@ for. The store takes 3.5 MiB.";
 
 // What would fit, where the store does not.
 fn too_large(keys: u32, states: u32) -> Wrong {
-    Wrong::TooLarge(keys, states, store::most_states(keys, WORDS))
+    match store::most_states(keys, WORDS) {
+        0 => Wrong::OtherKeys(keys),
+        most => Wrong::TooLarge { keys, states, most },
+    }
 }
 
 fn make(rt: &HostRuntime, keys: u32, states: u32) -> Result<(), Wrong> {
@@ -38,31 +41,20 @@ fn make(rt: &HostRuntime, keys: u32, states: u32) -> Result<(), Wrong> {
     }
 }
 
-fn run(rt: &HostRuntime) -> Result<(), Wrong> {
-    let mut words = Vec::new(rt.alloc());
-    for (i, argument) in env::args(rt)?.enumerate() {
-        if i > 0 {
-            words.push(argument)?;
-        }
-    }
-    if words.is_empty() || (words.len() == 1 && words[0].as_str() == "--help") {
-        println!(rt; "{HELP}")?;
-        return Ok(());
-    }
-    if words.len() != 2 {
-        return Err(Wrong::Usage);
-    }
-    let keys = arguments::number(words[0].as_str())?;
-    let states = arguments::number(words[1].as_str())?;
-    make(rt, keys, states)
+fn help(rt: &HostRuntime) -> io::Result<()> {
+    println!(rt; "{HELP}")
 }
 
-fn main(rt: HostRuntime) -> Result<ExitCode, Wrong> {
-    match run(&rt) {
-        Ok(()) => Ok(ExitCode::SUCCESS),
-        Err(wrong) => {
-            eprintln!(rt; "restore: {wrong}")?;
-            Ok(ExitCode::FAILURE)
-        }
+fn run(rt: &HostRuntime) -> Result<(), Wrong> {
+    let words = console::arguments(rt)?;
+    match words.as_slice() {
+        [] => Ok(help(rt)?),
+        [word] if word.as_str() == "--help" => Ok(help(rt)?),
+        [keys, states] => make(rt, number(keys.as_str())?, number(states.as_str())?),
+        _ => Err(Wrong::Usage),
     }
+}
+
+fn main(rt: HostRuntime) -> io::Result<ExitCode> {
+    console::status(&rt, "restore", run(&rt))
 }

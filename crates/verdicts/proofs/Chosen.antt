@@ -1,6 +1,7 @@
 -- Choosing answers one by one whose words are told apart.
-use Rattle.std.proofs.Common.{◌≡◌, ℕ, ◌+◌, ◌<◌, ◌≤◌, List, [], ◌∷◌, ◌++◌, map, length, get_or, Option, Some, None, sym, refl, ap, ◌∙◌, subst, inl, inr, arith}
+use Rattle.std.proofs.Common.{◌≡◌, ℕ, ◌+◌, ◌<◌, ◌≤◌, List, [], ◌∷◌, ◌++◌, map, length, get_or, Option, Some, None, MatchOption, sym, refl, ap, ◌∙◌, subst, inl, inr, arith}
 use Rattle.std.proofs.lemmas.List.{length_push, get_or_append_left, get_or_push, get_or-map, length-map}
+use Rattle.std.specs.List.{AllWithin, HoldsAt}
 use Rattle.std.proofs.lemmas.Bool.{cases_lt, cases_order}
 use Rattle.machines.specs.Words.{Word}
 use Rattle.machines.specs.Answers.{Told, Said, ToldApart, AllApart}
@@ -9,6 +10,12 @@ use Rattle.verdicts.specs.Greedy.{FirstAlike, ApartFromAll, Greedy}
 use Rattle.verdicts.specs.Orders.{word_at, FirstSaid}
 use Rattle.verdicts.proofs.Judged.{first_is_said}
 use Rattle.verdicts.proofs.Quiet.{apart_sym}
+
+pub first_alike_at : (answers : List Told) (chosen : List ℕ) (i : ℕ) (r : Option ℕ)
+    → MatchOption r (AllWithin (λ (j : ℕ). ToldApart (FirstSaid answers) (word_at answers i) (word_at answers j)) chosen 0 (length chosen))
+    (λ q. (q < length chosen) × HoldsAt (λ (j : ℕ). ToldApart (FirstSaid answers) (word_at answers i) (word_at answers j) → ⊥) chosen q × AllWithin (λ (j : ℕ). ToldApart (FirstSaid answers) (word_at answers i) (word_at answers j)) chosen 0 q) → FirstAlike answers chosen i r
+first_alike_at answers chosen i None h = λ q l. h q 0 (omega arith) l
+first_alike_at answers chosen i (Some q) h = (h.0, h.1 0)
 
 -- Among the first n answers some are chosen, each told apart from those chosen before; none of the others could be.
 pub record Choosing (answers : List Told) (n : ℕ) (chosen : List ℕ) : Type 0 where
@@ -26,9 +33,6 @@ never_itself answers w t =
       | inr (inl l) ↦ absurd (b.4 a.0 l (a.2 ∙ sym b.2))
       | inr (inr l) ↦ absurd (a.4 b.0 l (b.2 ∙ sym a.2))
     ])
-
-pub choosing_none : (answers : List Told) → Choosing answers 0 []
-choosing_none answers = record { inside = λ q h. absurd (omega (arith, h)); apart = λ p q l h. absurd (omega (arith, h)); full = λ i h. absurd (omega (arith, h)) }
 
 -- An answer is left out since it is not told apart from some chosen one.
 pub choosing_left : (answers : List Told) (n : ℕ) (chosen : List ℕ) (q : ℕ) → q < length chosen → (ToldApart (FirstSaid answers) (word_at answers n) (word_at answers (get_or chosen q 0)) → ⊥) → Choosing answers n chosen → Choosing answers (n + 1) chosen

@@ -1,6 +1,9 @@
 -- Words that begin with another, and the best of those that lead to a row.
-use Rattle.std.proofs.Common.{◌≡◌, ℕ, ◌+◌, ◌-◌, ◌<◌, ◌≤◌, ◌⊎◌, List, [], ◌++◌, length, get_or, Some, None, Option, sym, ap, ◌∙◌, subst, inl, inr, append-nil, arith}
-use Rattle.std.proofs.lemmas.Bool.{cases_eq, cases_lt, cases_order}
+use Rattle.std.proofs.Common.{◌≡◌, ℕ, ◌+◌, ◌-◌, ◌<◌, ◌≤◌, ◌⊎◌, List, [], ◌++◌, length, get_or, drop, Bool, true, false, not, Some, None, Option, MatchOption, MatchBool, sym, refl, ap, ◌∙◌, subst, inl, inr, append-nil, length-drop, arith}
+use Rattle.std.specs.List.{AllWithin, HoldsAt}
+use Rattle.std.specs.Option.{unwrap_or}
+use Rattle.std.proofs.lemmas.List.{get_or-drop}
+use Rattle.std.proofs.lemmas.Bool.{cases_eq, cases_lt, cases_order, false≢true}
 use Rattle.machines.specs.Words.{Word, Before}
 use Rattle.machines.specs.Tables.{Table}
 use Rattle.machines.specs.Answers.{Told}
@@ -9,6 +12,10 @@ use Rattle.machines.proofs.Shortlex.{less_trans, less_irrefl}
 use Rattle.verdicts.specs.declared.choice.Candidate.{Candidate}
 use Rattle.verdicts.specs.Choices.{LeadsHere, Followers, Better, Best, CandidateFor, PlacedIn, BetterOf}
 use Rattle.verdicts.specs.Orders.{word_at, Sorted}
+
+pub leaves_by : (v w u : Word) (b : Bool) → v ≡ w → (b ≡ true → v ≡ u ++ drop (length u) v) × ((x : Word) → v ≡ u ++ x → b ≡ true) → MatchBool (not b) ((x : Word) → w ≡ u ++ x → ⊥) ((x : Word) × (w ≡ u ++ x))
+leaves_by v w u true e h = (drop (length u) v, sym e ∙ h.0 refl)
+leaves_by v w u false e h = λ x f. false≢true (h.1 x (e ∙ f))
 
 module _ (answers : List Told) (order : List ℕ) where
   abbrev at_place : ℕ → Word
@@ -45,6 +52,24 @@ module _ (answers : List Told) (order : List ℕ) where
               | inr nq ↦ before_asym (word_at answers (get_or order p 0) ++ x) (word_at answers (get_or order e 0)) behind (subst (Before (word_at answers (get_or order e 0))) eq (sorted.rising e q (omega (arith, l, nq)) h))
             ]
       ]
+
+  read_at : (p : ℕ) (rest : List ℕ) (q : ℕ) → rest ≡ drop p order → p ≤ q → get_or rest (q - p) 0 ≡ get_or order q 0
+  read_at p rest q e l = ap (λ (l : List ℕ). get_or l (q - p) 0) e ∙ (get_or-drop p order (q - p) 0 ∙ ap (λ (z : ℕ). get_or order z 0) (omega (arith, l)))
+
+  -- The same, where a search through the rest of the order found the first that does not begin so.
+  pub followers_found : (p : ℕ) (rest : List ℕ) (r : Option ℕ) (n : ℕ) → Sorted answers order → p < length order → rest ≡ drop p order
+      → MatchOption r (AllWithin (λ (i : ℕ). (x : Word) × (word_at answers i ≡ at_place p ++ x)) rest 0 (length rest))
+      (λ i. (i < length rest) × HoldsAt (λ (i : ℕ). (x : Word) → word_at answers i ≡ at_place p ++ x → ⊥) rest i × AllWithin (λ (i : ℕ). (x : Word) × (word_at answers i ≡ at_place p ++ x)) rest 0 i)
+      → n ≡ unwrap_or r (length rest) → Followers answers order p n
+  followers_found p rest None n sorted hp e h same =
+      let long : length rest ≡ length order - p = ap length e ∙ length-drop p order in
+      subst (Followers answers order p) (omega (arith, same, long)) (followers_run p (length order) sorted hp (omega arith) (omega arith)
+      (λ q l k. subst (λ (i : ℕ). (x : Word) × (word_at answers i ≡ at_place p ++ x)) (read_at p rest q e l) (h (q - p) 0 (omega arith) (omega (arith, l, k, long)))) (inl (omega arith)))
+  followers_found p rest (Some i) n sorted hp e h same =
+      let long : length rest ≡ length order - p = ap length e ∙ length-drop p order in
+      subst (Followers answers order p) (omega (arith, same)) (followers_run p (p + i) sorted hp (omega arith) (omega (arith, long, h.0))
+      (λ q l k. subst (λ (i : ℕ). (x : Word) × (word_at answers i ≡ at_place p ++ x)) (read_at p rest q e l) (h.2 (q - p) 0 (omega arith) (omega (arith, l, k))))
+      (inr (subst (λ (i : ℕ). (x : Word) → word_at answers i ≡ at_place p ++ x → ⊥) (ap (λ (l : List ℕ). get_or l i 0) e ∙ get_or-drop p order i 0) (h.1 0))))
 
   -- How many words begin with one is one number.
   followers_less : (p m n : ℕ) → Followers answers order p m → Followers answers order p n → m < n → ⊥

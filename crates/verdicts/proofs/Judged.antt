@@ -1,31 +1,23 @@
 -- From all that was looked at to a table that is borne out.
-use Rattle.std.proofs.Common.{◌≡◌, ℕ, zero, suc, ◌+◌, ◌*◌, ◌%◌, ◌<◌, ◌⊎◌, List, [], ◌∷◌, ◌++◌, length, get_or, sym, refl, ap, ◌∙◌, subst, inl, inr, arith}
-use Rattle.std.proofs.lemmas.Nat.{mul-add-lt, div-mul-add, mod-mul-add}
+use Rattle.std.proofs.Common.{◌≡◌, ℕ, zero, suc, ◌+◌, ◌*◌, ◌<◌, ◌⊎◌, List, [], length, get_or, sym, refl, ap, ◌∙◌, subst, inl, inr, arith}
+use Rattle.std.proofs.lemmas.Nat.{mul-add-lt}
 use Rattle.std.proofs.lemmas.Bool.{cases_lt, cases_order}
 use Rattle.machines.specs.Words.{Word, Keys}
-use Rattle.machines.specs.Tables.{next, shows}
+use Rattle.machines.specs.Tables.{shows}
 use Rattle.machines.specs.Answers.{Told, Said, Single, OfKeys, Agrees, ToldApart, AllApart}
 use Rattle.machines.specs.Borne.{IsBorneOut, Leads}
-use Rattle.machines.proofs.Alphabet.{before_cases, before_irrefl}
 use Rattle.machines.proofs.Membership.{in-get_or, in_place}
 use Rattle.machines.proofs.Leads.{borne_least, borne_right}
-use Rattle.machines.specs.Words.{Before}
 use Rattle.answers.specs.declared.table.Table.{Table}
 use Rattle.answers.specs.Logs.{no_answer}
 use Rattle.answers.specs.Values.{keys_of, rows_of, cells_of}
 use Rattle.answers.proofs.Cells.{sound_of}
 use Rattle.verdicts.specs.Orders.{word_at, shown_at, FirstAt, FirstSaid}
-use Rattle.verdicts.specs.Faults.{Consistent, Agreed, RowFit, PairApart, ApartOrThere, EdgeApart}
+use Rattle.verdicts.specs.Faults.{Consistent, Agreed, RowFit, RowsApart, PairApart, ApartOrThere, EdgeApart}
 use Rattle.verdicts.specs.Verdicts.{Borne}
-use Rattle.verdicts.proofs.Places.{from_pair}
+use Rattle.verdicts.proofs.Kept.{same_or_not}
+use Rattle.verdicts.proofs.Places.{from_pair, from_edge}
 use Rattle.verdicts.proofs.Quiet.{apart_sym}
-
-same_or_not : (u v : Word) → (u ≡ v) ⊎ (u ≡ v → ⊥)
-same_or_not u v = elim (before_cases u v) [
-  | inl e ↦ inl e
-  | inr (inl b) ↦ inr (λ e. before_irrefl v (subst (λ z. Before z v) e b))
-  | inr (inr b) ↦ inr (λ e. before_irrefl v (subst (Before v) e b))
-]
 
 -- Among the first n answers there is a first to w, or none.
 first_among : (answers : List Told) (w : Word) (n : ℕ) → ((f : ℕ) × (f < n) × (word_at answers f ≡ w) × FirstAt answers f) ⊎ ((j : ℕ) → j < n → word_at answers j ≡ w → ⊥)
@@ -95,7 +87,7 @@ module _ (t : Table) (ws : List Word) (answers : List Told) (many : length ws �
   in_order : (i j : ℕ) → i < j → j < rows_of t → ToldApart (Said answers) (get_or ws i []) (get_or ws j [])
   in_order i j l h =
       let place : i * rows_of t + j < rows_of t * rows_of t = omega (arith, mul-add-lt i (rows_of t) j (rows_of t) (omega (arith, l, h)) h) in
-      apart_from_first answers good.consistent (from_pair (λ a b. a < b → ToldApart (FirstSaid answers) (get_or ws a []) (get_or ws b [])) i (rows_of t) j h (good.pairs (i * rows_of t + j) place) l)
+      apart_from_first answers good.consistent (from_pair (RowsApart ws answers) i (rows_of t) j h (good.pairs (i * rows_of t + j) place) l)
 
   good_apart : AllApart (Said answers) ws
   good_apart i j hi hj ne = elim (cases_order i j) [
@@ -109,11 +101,7 @@ module _ (t : Table) (ws : List Word) (answers : List Told) (many : length ws �
       let e = i * keys_of t + x in
       let edge : e < rows_of t * keys_of t = omega (arith, mul-add-lt i (keys_of t) x (rows_of t) hi hx) in
       let place : e * rows_of t + j < (rows_of t * keys_of t) * rows_of t = omega (arith, mul-add-lt e (rows_of t) j (rows_of t * keys_of t) edge hj) in
-      let at = from_pair (ApartOrThere (keys_of t) (cells_of t) ws answers) e (rows_of t) j hj (good.edges (e * rows_of t + j) place) in
-      let row = div-mul-add i (keys_of t) x hx in
-      let key = mod-mul-add i (keys_of t) x hx in
-      let there = subst (λ a. (j ≡ next (keys_of t) (cells_of t) a (e % keys_of t) → ⊥) → ToldApart (FirstSaid answers) (get_or ws a [] ++ (e % keys_of t ∷ [])) (get_or ws j [])) row at in
-      apart_from_first answers good.consistent (subst (λ b. (j ≡ next (keys_of t) (cells_of t) i b → ⊥) → ToldApart (FirstSaid answers) (get_or ws i [] ++ (b ∷ [])) (get_or ws j [])) key there ne)
+      apart_from_first answers good.consistent (from_edge (ApartOrThere (keys_of t) (cells_of t) ws answers) i (keys_of t) x (rows_of t) j hx hj (good.edges (e * rows_of t + j) place) ne)
 
   good_borne : IsBorneOut (keys_of t) (rows_of t) (cells_of t) ws (Said answers)
   good_borne = record {

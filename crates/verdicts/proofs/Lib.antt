@@ -1,8 +1,9 @@
 -- Lemmas of this crate.
 pub mod Compared
 pub mod Slices
-pub mod Halves
+pub mod Sought
 pub mod Inserted
+pub mod Kept
 pub mod Quiet
 pub mod Listed
 pub mod Places
@@ -10,3 +11,4 @@ pub mod Judged
 pub mod Reported
 pub mod Chosen
 pub mod Followed
+pub mod Checked

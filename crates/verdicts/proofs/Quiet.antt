@@ -1,13 +1,14 @@
 -- Answers that tell nothing apart, found by their order.
-use Rattle.std.proofs.Common.{◌≡◌, ℕ, ◌<◌, ◌≤◌, List, [], ◌++◌, length, get_or, drop, sym, refl, ap, ◌∙◌, subst, inl, inr, append-nil, arith}
+use Rattle.std.proofs.Common.{Bool, true, false, not, eqb, Option, Some, None, ◌≡◌, ℕ, ◌<◌, ◌≤◌, List, ◌++◌, length, get_or, take, drop, ◌+◌, ◌-◌, sym, refl, ap, ◌∙◌, subst, inl, inr, length-drop, arith}
 use Rattle.std.proofs.lemmas.List.Prefix.{front_rest}
-use Rattle.std.proofs.lemmas.List.{append_cancel_left}
-use Rattle.std.proofs.lemmas.Bool.{cases_eq, cases_order}
+use Rattle.std.proofs.lemmas.List.{append_cancel_left, take_rest, get_or-drop}
+use Rattle.std.proofs.lemmas.Bool.{cases_eq, cases_order, eqb-true, eq-eqb, false≢true}
+use Rattle.std.specs.Bool.{then_some}
 use Rattle.machines.specs.Words.{Word, Before}
 use Rattle.machines.specs.Answers.{Told, ToldApart}
 use Rattle.machines.proofs.Alphabet.{before_asym, before_irrefl, front_first, behind_all}
 use Rattle.answers.specs.declared.apart.Apart.{Apart}
-use Rattle.verdicts.specs.Orders.{word_at, shown_at, Sorted, Indexed, Placed, StandsAt, FirstAt, FirstSaid, BothFirst}
+use Rattle.verdicts.specs.Orders.{word_at, shown_at, Sorted, Indexed, Placed, StandsAt, FirstAt, FirstSaid, Found, Other, BothFirst}
 
 -- A word stands at one place only.
 pub same_place : (answers : List Told) (order : List ℕ) (w : Word) (p q : ℕ) → Sorted answers order → StandsAt answers order w p → StandsAt answers order w q → p ≡ q
@@ -29,22 +30,45 @@ place_of_first answers order i o h first =
     let late = o.first place.0 i place.1 h (sym place.2) in
     (place.0, place.1, elim (cases_eq (get_or order place.0 0) i) [ inl e ↦ e | inr ne ↦ absurd (first (get_or order place.0 0) (omega (arith, late, ne)) place.2) ])
 
+module _ (answers : List Told) (order : List ℕ) (w : Word) where
+  -- Where no answer to w is found, no first answer to it says anything else.
+  pub other_none : (m : ℕ) → Indexed answers order → Found answers order w None → Other answers w m None
+  other_none m o missing n s =
+      let place = place_of_first answers order s.0 o s.1 s.4 in
+      absurd (missing place.0 (place.1, ap (word_at answers) place.2 ∙ s.2))
+
+  -- The answer to w that is found is the only first answer to it.
+  only_first : (j : ℕ) → Indexed answers order → Found answers order w (Some j) → (n : ℕ) → FirstSaid answers w n → n ≡ shown_at answers j
+  only_first j o found n s =
+      let place = place_of_first answers order s.0 o s.1 s.4 in
+      let at = found.2 in
+      let same = same_place answers order w place.0 at.0 o.sorted (place.1, ap (word_at answers) place.2 ∙ s.2) (at.1, ap (word_at answers) at.2 ∙ found.1) in
+      sym s.3 ∙ ap (shown_at answers) (sym place.2 ∙ (ap (λ (z : ℕ). get_or order z 0) same ∙ at.2))
+
+  pub other_found : (i j : ℕ) → Indexed answers order → Found answers order w (Some j) → (a b : ℕ) (r : Option ℕ) → a ≡ shown_at answers i → b ≡ shown_at answers j
+      → (t : Bool) → t ≡ eqb a b → r ≡ then_some (not t) j → Other answers w (shown_at answers i) r
+  other_found i j o found a b r ea eb true e h =
+      subst (Other answers w (shown_at answers i)) (sym h) (λ n s. only_first j o found n s ∙ (sym eb ∙ (sym (eqb-true a b (sym e)) ∙ ea)))
+  other_found i j o found a b r ea eb false e h =
+      subst (Other answers w (shown_at answers i)) (sym h)
+      (found.0, found.1, λ same. false≢true (e ∙ eq-eqb a b (ea ∙ (same ∙ sym eb))), subst (FirstAt answers) found.2.2 (first_in_order answers order found.2.0 o found.2.1))
+
 -- The answer at place q of the order has no partner: whatever follows u in its word, the first answer with the same behind v says what it says.
 abbrev pub Quiet : List Told → List ℕ → Word → Word → ℕ → Type 0
 Quiet answers order u v q = (x : Word) → word_at answers (get_or order q 0) ≡ u ++ x → (n : ℕ) → FirstSaid answers (v ++ x) n → n ≡ shown_at answers (get_or order q 0)
 
 -- A place before that of u is quiet, since no word there begins with u.
-pub quiet_before : (answers : List Told) (order : List ℕ) (u v : Word) (p : ℕ) → Placed answers order (u ++ []) p → (q : ℕ) → q < p → Quiet answers order u v q
-quiet_before answers order u v p placed q h x e = absurd (front_first u x (subst (λ z. Before z u) e (subst (Before (word_at answers (get_or order q 0))) (append-nil u) (placed.below q h))))
+pub quiet_before : (answers : List Told) (order : List ℕ) (u v : Word) (p : ℕ) → Placed answers order u p → (q : ℕ) → q < p → Quiet answers order u v q
+quiet_before answers order u v p placed q h x e = absurd (front_first u x (subst (λ z. Before z u) e (placed.below q h)))
 
 -- From a place on at which the word does not begin with u all places are quiet.
-pub quiet_after : (answers : List Told) (order : List ℕ) (u v : Word) (start p : ℕ) → Sorted answers order → Placed answers order (u ++ []) start → start ≤ p → p < length order
+pub quiet_after : (answers : List Told) (order : List ℕ) (u v : Word) (start p : ℕ) → Sorted answers order → Placed answers order u start → start ≤ p → p < length order
     → ((x : Word) → word_at answers (get_or order p 0) ≡ u ++ x → ⊥) → (q : ℕ) → p ≤ q → q < length order → Quiet answers order u v q
 quiet_after answers order u v start p sorted placed s h other q l hq x e =
     absurd (elim (cases_eq p q) [
       | inl same ↦ other x (ap (λ (z : ℕ). word_at answers (get_or order z 0)) same ∙ e)
       | inr ne ↦
-          let behind = behind_all u (word_at answers (get_or order p 0)) (λ b. placed.above p s h (subst (Before (word_at answers (get_or order p 0))) (sym (append-nil u)) b)) other x in
+          let behind = behind_all u (word_at answers (get_or order p 0)) (λ b. placed.above p s h b) other x in
           before_asym (u ++ x) (word_at answers (get_or order p 0)) behind (subst (Before (word_at answers (get_or order p 0))) e (sorted.rising p q (omega (arith, l, ne)) hq))
     ])
 
@@ -98,3 +122,11 @@ both_first_apart answers u v e b =
       right_said = (e.right, h.right_in, h.apart.alike.right, refl, b.right_first);
       differ = h.apart.differ;
     }
+
+-- What stands at a place of the order, counted from another place on.
+pub from_place : (slice order : List ℕ) (start i : ℕ) → slice ≡ order → get_or (take (length slice - start) (drop start slice)) i 0 ≡ get_or order (start + i) 0
+from_place slice order start i e =
+    ap (λ (l : List ℕ). get_or l i 0) (take_rest slice start) ∙ (get_or-drop start slice i 0 ∙ ap (λ (l : List ℕ). get_or l (start + i) 0) e)
+
+pub places_left : (slice order : List ℕ) (start : ℕ) → slice ≡ order → length (take (length slice - start) (drop start slice)) ≡ length order - start
+places_left slice order start e = ap length (take_rest slice start) ∙ (length-drop start slice ∙ ap (λ (l : List ℕ). length l - start) e)

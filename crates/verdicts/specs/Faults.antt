@@ -39,18 +39,18 @@ IsWordFault k t answers i w (Some OtherKeys) = Keys k w → ⊥
 IsWordFault k t answers i w (Some (LeadsTo r)) = Keys k w × (walk k t 0 w ≡ r.0) × (r.0 ≢ i)
 IsWordFault k t answers i w (Some NotTold) = (m : ℕ) → FirstSaid answers w m → ⊥
 
--- The words of rows i < j are told apart; the pair has the number i * rows + j.
+-- The words of rows i < j are told apart.
+abbrev pub RowsApart : List Word → List Told → ℕ → ℕ → Type 0
+RowsApart ws answers i j = i < j → ToldApart (FirstSaid answers) (slice_index_or ws i []) (slice_index_or ws j [])
+
+-- The same for the pair of rows that has the number i * rows + j.
 abbrev pub PairApart : ℕ → List Word → List Told → ℕ → Type 0
-PairApart rows ws answers p = p / rows < p % rows → ToldApart (FirstSaid answers) (slice_index_or ws (p / rows) []) (slice_index_or ws (p % rows) [])
+PairApart rows ws answers p = RowsApart ws answers (p / rows) (p % rows)
 
--- The word of row i with key x behind it; the two have the number i * k + x.
-abbrev pub edge_word : ℕ → List Word → ℕ → Word
-edge_word k ws e = slice_index_or ws (e / k) [] ++ (e % k ∷ [])
+-- The word of row i with key x behind it is told apart from the word of row j, unless the key leads there.
+abbrev pub ApartOrThere : ℕ → Table → List Word → List Told → ℕ → ℕ → ℕ → Type 0
+ApartOrThere k t ws answers i x j = (j ≢ next k t i x) → ToldApart (FirstSaid answers) (slice_index_or ws i [] ++ (x ∷ [])) (slice_index_or ws j [])
 
--- The word of edge e is told apart from the word of row j, unless the edge leads there.
-abbrev pub ApartOrThere : ℕ → Table → List Word → List Told → ℕ → ℕ → Type 0
-ApartOrThere k t ws answers e j = (j ≢ next k t (e / k) (e % k)) → ToldApart (FirstSaid answers) (edge_word k ws e) (slice_index_or ws j [])
-
--- The same for edge e and row j, which have the number e * rows + j.
+-- The same for row i with key x and row j, which have the number (i * k + x) * rows + j.
 abbrev pub EdgeApart : ℕ → ℕ → Table → List Word → List Told → ℕ → Type 0
-EdgeApart k rows t ws answers p = ApartOrThere k t ws answers (p / rows) (p % rows)
+EdgeApart k rows t ws answers p = ApartOrThere k t ws answers ((p / rows) / k) ((p / rows) % k) (p % rows)

@@ -1,16 +1,10 @@
 -- Answers in alphabetical order of their words.
-use Rattle.std.specs.Prelude.{◌≡◌, ℕ, ◌<◌, ◌≤◌, List, length, Some, None, Option, ◌≢◌, slice_index, slice_index_or}
-use Rattle.std.specs.declared.cmp.Ordering.{Ordering}
-use Rattle.std.specs.Ordering.{MatchOrdering}
+use Rattle.std.specs.Prelude.{◌≡◌, ℕ, ◌<◌, ◌≤◌, List, length, Some, None, Option, Ok, Err, Result, ◌≢◌, slice_index, slice_index_or}
 use Rattle.machines.specs.Words.{Word, Before}
 use Rattle.machines.specs.Answers.{Told, ToldApart}
 use Rattle.answers.specs.declared.apart.Apart.{Apart}
 use Rattle.answers.specs.Logs.{no_answer}
 use Rattle.answers.specs.Evidence.{Evidence}
-
--- How two words stand in alphabetical order.
-abbrev pub Compares : Word → Word → Ordering → Type 0
-Compares u v o = MatchOrdering o (Before u v) (u ≡ v) (Before v u)
 
 -- The word of answer i.
 abbrev pub word_at : List Told → ℕ → Word
@@ -45,6 +39,11 @@ pub record Placed (answers : List Told) (order : List ℕ) (w : Word) (p : ℕ) 
 -- At place p stands the word w.
 abbrev pub StandsAt : List Told → List ℕ → Word → ℕ → Type 0
 StandsAt answers order w p = (p < length order) × (word_at answers (slice_index order p) ≡ w)
+
+-- Where a search for the word w ended: at the place where it stands, or, where it stands nowhere, at the first place at which the word does not come before w.
+abbrev pub Sought : List Told → List ℕ → Word → Result ℕ ℕ → Type 0
+Sought answers order w (Ok p) = Placed answers order w p × StandsAt answers order w p
+Sought answers order w (Err p) = Placed answers order w p × ((q : ℕ) → StandsAt answers order w q → ⊥)
 
 -- The answer that the order has for a word, and its place; none where it has none.
 abbrev pub Found : List Told → List ℕ → Word → Option ℕ → Type 0

@@ -1,116 +1,81 @@
 // Looks at each row's word with each key behind it.
-ghost use Rattle.std.specs.Prelude.{◌≡◌, ℕ, ◌+◌, ◌*◌, ◌/◌, ◌%◌, ◌<◌, ◌≤◌, [], ◌∷◌, ◌++◌, length, IfOk, Decides, OnOk};
+ghost use Rattle.std.specs.Prelude.{◌≡◌, ℕ, ◌+◌, ◌*◌, ◌<◌, [], ◌∷◌, ◌++◌, IfOk, Decides, OnOk, slice_index_or};
 ghost use Rattle.machines.specs.Tables.{next};
 ghost use Rattle.answers.specs.Logs.{told};
 ghost use Rattle.answers.specs.Made.{lists};
 ghost use Rattle.answers.specs.Values.{keys_of, rows_of, cells_of};
-ghost use Rattle.verdicts.specs.Faults.{edge_word, ApartOrThere, EdgeApart};
-ghost use Rattle.verdicts.specs.Listings.{Lists};
-ghost use Rattle.verdicts.specs.Orders.{Indexed};
+ghost use Rattle.verdicts.specs.Faults.{ApartOrThere, EdgeApart};
+ghost use Rattle.verdicts.specs.Listings.{Checks, Lists, edge_at};
 
+use crate::checks::Examination;
 use crate::listing::Listing;
-use crate::{apart, checks};
-use answers::log::Answer;
-use answers::table::{Key, Row, Table};
-use std::alloc::{AllocError, Global};
+use answers::table::{Key, Row};
+use std::alloc::AllocError;
 
-// Whether the edge leads to the row.
-fn leads_to(table: &Table, edge: usize, row: usize) -> bool
-    requires { edge < rows_of table.now * keys_of table.now }
-    ensures { Decides result (row ≡ next (keys_of table.now) (cells_of table.now) (edge / keys_of table.now) (edge % keys_of table.now)) }
-{
-    let keys = table.keys();
-    match table.next(Row(edge / keys), Key((edge % keys) as u32)) {
-        Some(target) => row == target.0,
-        None => false,
+impl Examination<'_> {
+    // The row's word with the key behind it.
+    fn word_along(&self, row: usize, key: u32) -> Result<Vec<u32>, AllocError>
+        requires { row < rows_of self.now.table.now }
+        ensures { IfOk result (λ v. v.items ≡ slice_index_or (lists self.now.words.now) row [] ++ (key ∷ [])) }
+    {
+        let mut word = Vec::from_slice(self.heap, self.word(row))?;
+        word.push(key)?;
+        Ok(word)
     }
-}
 
-// The word of the edge.
-fn word_along(
-    heap: Global,
-    table: &Table,
-    words: &[Vec<u32>],
-    edge: usize,
-) -> Result<Vec<u32>, AllocError>
-    requires rows { length (lists words.now) ≡ rows_of table.now }
-    requires edge { edge < rows_of table.now * keys_of table.now }
-    ensures { IfOk result (λ v. v.items ≡ edge_word (keys_of table.now) (lists words.now) edge) }
-{
-    let keys = table.keys();
-    let mut word = Vec::from_slice(heap, checks::row_word(words, edge / keys))?;
-    word.push((edge % keys) as u32)?;
-    Ok(word)
-}
+    // Whether the row's word with the key behind it is told apart from the other row's, unless the key leads there.
+    fn apart_or_there(&self, row: usize, key: u32, word: &[u32], other: usize) -> bool
+        requires row { row < rows_of self.now.table.now }
+        requires key { key < keys_of self.now.table.now }
+        requires other { other < rows_of self.now.table.now }
+        requires word { word.now ≡ slice_index_or (lists self.now.words.now) row [] ++ (key ∷ []) }
+        ensures { Decides result (ApartOrThere (keys_of self.now.table.now) (cells_of self.now.table.now) (lists self.now.words.now) (told self.now.index.answers.now) row key other) }
+    {
+        self.table.next(Row(row), Key(key)) == Some(Row(other))
+            || self.index.apart(word, self.word(other)).is_some()
+    }
 
-// Whether the word of the edge is told apart from the row's, unless the edge leads there.
-fn apart_or_there(
-    table: &Table,
-    words: &[Vec<u32>],
-    answers: &[Answer],
-    order: &[usize],
-    edge: usize,
-    word: &[u32],
-    row: usize,
-) -> bool
-    requires rows { length (lists words.now) ≡ rows_of table.now }
-    requires edge { edge < rows_of table.now * keys_of table.now }
-    requires row { row < rows_of table.now }
-    requires word { word.now ≡ edge_word (keys_of table.now) (lists words.now) edge }
-    requires indexed { Indexed (told answers.now) order.now }
-    ensures { Decides result (ApartOrThere (keys_of table.now) (cells_of table.now) (lists words.now) (told answers.now) edge row) }
-{
-    if leads_to(table, edge, row) {
-        return true;
+    // The row, the key and the other row, if the key does not lead there and nothing tells its word apart from the other row's.
+    fn open(&self, row: usize, key: u32, word: &[u32], other: usize) -> Option<(Row, Key, Row)>
+        requires row { row < rows_of self.now.table.now }
+        requires key { key < keys_of self.now.table.now }
+        requires other { other < rows_of self.now.table.now }
+        requires word { word.now ≡ slice_index_or (lists self.now.words.now) row [] ++ (key ∷ []) }
+        ensures { Checks (edge_at (keys_of self.now.table.now) (rows_of self.now.table.now)) (EdgeApart (keys_of self.now.table.now) (rows_of self.now.table.now) (cells_of self.now.table.now) (lists self.now.words.now) (told self.now.index.answers.now)) ((row * keys_of self.now.table.now + key) * rows_of self.now.table.now + other) result }
+    {
+        let apart = self.apart_or_there(row, key, word, other);
+        (!apart).then_some((Row(row), Key(key), Row(other)))
     }
-    match apart::apart_in_order(answers, order, word, checks::row_word(words, row)) {
-        Some(_) => true,
-        None => false,
-    }
-}
 
-// Looks at the edge against each row.
-fn look_along(
-    found: &mut Listing,
-    heap: Global,
-    table: &Table,
-    words: &[Vec<u32>],
-    answers: &[Answer],
-    order: &[usize],
-    edge: usize,
-    most: usize,
-) -> Result<(), AllocError>
-    requires rows { length (lists words.now) ≡ rows_of table.now }
-    requires edge { edge < rows_of table.now * keys_of table.now }
-    requires indexed { Indexed (told answers.now) order.now }
-    requires sofar { Lists (EdgeApart (keys_of table.now) (rows_of table.now) (cells_of table.now) (lists words.now) (told answers.now)) (edge * rows_of table.now) most found.old }
-    ensures { OnOk result (Lists (EdgeApart (keys_of table.now) (rows_of table.now) (cells_of table.now) (lists words.now) (told answers.now)) ((edge + 1) * rows_of table.now) most found.new) }
-{
-    let word = word_along(heap, table, words, edge)?;
-    let rows = table.rows();
-    for row in 0..rows {
-        let good = apart_or_there(table, words, answers, order, edge, word.as_slice(), row);
-        found.look(most, edge * rows + row, good)?;
+    // Looks at the row and the key against each other row.
+    fn look_along(
+        &self,
+        found: &mut Listing<(Row, Key, Row)>,
+        row: usize,
+        key: u32,
+    ) -> Result<(), AllocError>
+        requires row { row < rows_of self.now.table.now }
+        requires key { key < keys_of self.now.table.now }
+        requires sofar { Lists (edge_at (keys_of self.now.table.now) (rows_of self.now.table.now)) (EdgeApart (keys_of self.now.table.now) (rows_of self.now.table.now) (cells_of self.now.table.now) (lists self.now.words.now) (told self.now.index.answers.now)) ((row * keys_of self.now.table.now + key) * rows_of self.now.table.now) self.now.most found.old }
+        ensures { OnOk result (Lists (edge_at (keys_of self.now.table.now) (rows_of self.now.table.now)) (EdgeApart (keys_of self.now.table.now) (rows_of self.now.table.now) (cells_of self.now.table.now) (lists self.now.words.now) (told self.now.index.answers.now)) ((row * keys_of self.now.table.now + (key + 1)) * rows_of self.now.table.now) self.now.most found.new) }
+    {
+        let word = self.word_along(row, key)?;
+        let word = word.as_slice();
+        found.look(self.most, self.table.rows(), |other| {
+            self.open(row, key, word, other)
+        })
     }
-    Ok(())
-}
 
-// The edges whose words are not told apart from a row that they do not lead to.
-pub(crate) fn open_edges(
-    heap: Global,
-    table: &Table,
-    words: &[Vec<u32>],
-    answers: &[Answer],
-    order: &[usize],
-    most: usize,
-) -> Result<Listing, AllocError>
-    requires rows { length (lists words.now) ≡ rows_of table.now }
-    requires indexed { Indexed (told answers.now) order.now }
-    ensures { IfOk result (Lists (EdgeApart (keys_of table.now) (rows_of table.now) (cells_of table.now) (lists words.now) (told answers.now)) ((rows_of table.now * keys_of table.now) * rows_of table.now) most) }
-{
-    let mut found = Listing::new(heap);
-    for edge in 0..table.rows() * table.keys() {
-        look_along(&mut found, heap, table, words, answers, order, edge, most)?;
+    // The rows and keys that are not told apart from another row, to which the key does not lead.
+    pub(crate) fn open_edges(&self) -> Result<Listing<(Row, Key, Row)>, AllocError>
+        ensures { IfOk result (Lists (edge_at (keys_of self.now.table.now) (rows_of self.now.table.now)) (EdgeApart (keys_of self.now.table.now) (rows_of self.now.table.now) (cells_of self.now.table.now) (lists self.now.words.now) (told self.now.index.answers.now)) ((rows_of self.now.table.now * keys_of self.now.table.now) * rows_of self.now.table.now) self.now.most) }
+    {
+        let mut found = Listing::new(self.heap);
+        for row in 0..self.table.rows() {
+            for key in 0..self.table.keys() as u32 {
+                self.look_along(&mut found, row, key)?;
+            }
+        }
+        Ok(found)
     }
-    Ok(found)
 }

@@ -5,21 +5,21 @@ ghost use Rattle.answers.specs.Made.{lists};
 ghost use Rattle.verdicts.specs.Verdicts.{Reports, NoReport};
 ghost use Rattle.verdicts.specs.declared.report.AuditFault.TheVariants.{Memory};
 
+use crate::checks::Examination;
 use crate::listing::Listing;
-use crate::{edges, looks, order};
+use crate::order::Index;
 use answers::log::Answer;
-use answers::table::Table;
+use answers::table::{Key, Row, Table};
 use std::alloc::{AllocError, Global};
 
-// Answers by their numbers, rows by theirs; a pair of rows i and j has the number i * rows + j,
-// and a row i with a key x and another row j the number (i * keys + x) * rows + j.
+// Answers by their numbers; pairs of rows, the first before the second; a row with a key, and another row.
 #[derive(Drop)]
 pub struct Report {
-    pub conflicts: Listing,
-    pub wrong: Listing,
-    pub words: Listing,
-    pub pairs: Listing,
-    pub edges: Listing,
+    pub conflicts: Listing<usize>,
+    pub wrong: Listing<usize>,
+    pub words: Listing<Row>,
+    pub pairs: Listing<(Row, Row)>,
+    pub edges: Listing<(Row, Key, Row)>,
 }
 
 // Why there is no report.
@@ -29,6 +29,7 @@ pub enum AuditFault {
     Memory,
 }
 
+// By hand, since a contract names the fault that `?` makes.
 impl From<AllocError> for AuditFault {
     ghost from_gives = { λ _ r. r ≡ Memory };
 
@@ -47,17 +48,22 @@ pub fn examine(
 ) -> Result<Report, AuditFault>
     ensures { MatchResult result (Reports table.now (lists words.now) (told answers.now) most) (NoReport table.now (lists words.now)) }
 {
-    let rows = table.rows();
-    if words.len() != rows {
+    if words.len() != table.rows() {
         return Err(AuditFault::WordCount);
     }
-    let sorted = order::ordered(heap, answers)?;
-    let order = sorted.as_slice();
+    let index = Index::new(heap, answers)?;
+    let examination = Examination {
+        heap,
+        table,
+        words,
+        index,
+        most,
+    };
     Ok(Report {
-        conflicts: looks::conflicts(heap, answers, order, most)?,
-        wrong: looks::wrong_answers(heap, table, answers, most)?,
-        words: looks::unfit_words(heap, table, words, answers, most)?,
-        pairs: looks::pairs_alike(heap, words, rows, answers, order, most)?,
-        edges: edges::open_edges(heap, table, words, answers, order, most)?,
+        conflicts: examination.conflicts()?,
+        wrong: examination.wrong_answers()?,
+        words: examination.unfit_words()?,
+        pairs: examination.pairs_alike()?,
+        edges: examination.open_edges()?,
     })
 }

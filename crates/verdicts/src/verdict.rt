@@ -1,6 +1,7 @@
 // Whether a table is borne out, and if not, the first thing that is missing.
 ghost use Rattle.std.specs.Prelude.{ℕ, ◌<◌, List, MatchResult};
 ghost use Rattle.machines.specs.Answers.{Told};
+ghost use Rattle.answers.specs.declared.table.Table.{Table};
 ghost use Rattle.answers.specs.Logs.{told};
 ghost use Rattle.answers.specs.Made.{lists};
 ghost use Rattle.verdicts.specs.Verdicts.{Reports, NoReport, Judged};
@@ -11,10 +12,9 @@ use answers::log::Answer;
 use answers::table::{Key, Row, Table};
 use std::alloc::Global;
 
-// Answers by their numbers. Only `BorneOut` is good.
-#[derive(Clone, Copy)]
-pub enum Verdict {
-    BorneOut,
+// Why a table is not borne out; answers by their numbers.
+#[derive(Clone, Copy, PartialEq, Eq, Debug)]
+pub enum Flaw {
     Conflict(usize),
     Wrong(usize),
     Unfit(Row),
@@ -23,29 +23,24 @@ pub enum Verdict {
 }
 
 impl Report {
-    // The first thing that is missing for the table that was reported on.
-    pub fn verdict(&self, table: &Table) -> Verdict
-        ensures { (ws : List (List ℕ)) (answers : List Told) (most : ℕ) → 0 < most → Reports table.now ws answers most self.now → Judged table.now ws answers result }
+    // The first thing that is missing for the table that was reported on; none if it is borne out.
+    pub fn verdict(&self) -> Option<Flaw>
+        ensures { (t : Table) (ws : List (List ℕ)) (answers : List Told) (most : ℕ) → 0 < most → Reports t ws answers most self.now → Judged t ws answers result }
     {
         if let Some(i) = self.conflicts.head() {
-            return Verdict::Conflict(i);
+            return Some(Flaw::Conflict(i));
         }
         if let Some(i) = self.wrong.head() {
-            return Verdict::Wrong(i);
+            return Some(Flaw::Wrong(i));
         }
-        if let Some(i) = self.words.head() {
-            return Verdict::Unfit(Row(i));
+        if let Some(row) = self.words.head() {
+            return Some(Flaw::Unfit(row));
         }
-        let rows = table.rows();
-        if let Some(p) = self.pairs.head() {
-            return Verdict::Alike(Row(p / rows), Row(p % rows));
+        if let Some((one, other)) = self.pairs.head() {
+            return Some(Flaw::Alike(one, other));
         }
-        if let Some(p) = self.edges.head() {
-            let keys = table.keys();
-            let edge = p / rows;
-            return Verdict::Open(Row(edge / keys), Key((edge % keys) as u32), Row(p % rows));
-        }
-        Verdict::BorneOut
+        let (row, key, other) = self.edges.head()?;
+        Some(Flaw::Open(row, key, other))
     }
 }
 
@@ -55,9 +50,9 @@ pub fn audit(
     table: &Table,
     words: &[Vec<u32>],
     answers: &[Answer],
-) -> Result<Verdict, AuditFault>
+) -> Result<Option<Flaw>, AuditFault>
     ensures { MatchResult result (Judged table.now (lists words.now) (told answers.now)) (NoReport table.now (lists words.now)) }
 {
     let report = report::examine(heap, table, words, answers, 1)?;
-    Ok(report.verdict(table))
+    Ok(report.verdict())
 }

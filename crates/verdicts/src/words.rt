@@ -8,7 +8,7 @@ use answers::log::Answer;
 use answers::table::{Row, Table};
 
 // Why a word is not fit for a row.
-#[derive(Clone, Copy)]
+#[derive(Clone, Copy, PartialEq, Eq, Debug)]
 pub enum WordFault {
     // Row 0 must have the empty word.
     NotEmpty,
@@ -21,12 +21,9 @@ pub enum WordFault {
 pub fn first_answer(answers: &[Answer], word: &[u32]) -> Option<usize>
     ensures { FirstAnswer (told answers.now) word.now result }
 {
-    for (i, answer) in answers.iter().enumerate() {
-        if answer.word.as_slice() == word {
-            return Some(i);
-        }
-    }
-    None
+    answers
+        .iter()
+        .position(|answer| answer.word.as_slice() == word)
 }
 
 // Whether the word is empty, if the row is the first.
@@ -46,11 +43,9 @@ pub fn word_fault(table: &Table, answers: &[Answer], row: Row, word: &[u32]) -> 
     let Some(led) = table.lead(word) else {
         return Some(WordFault::OtherKeys);
     };
-    if led.0 != row.0 {
+    if led != row {
         return Some(WordFault::LeadsTo(led));
     }
-    match first_answer(answers, word) {
-        Some(_) => None,
-        None => Some(WordFault::NotTold),
-    }
+    let told = first_answer(answers, word).is_some();
+    (!told).then_some(WordFault::NotTold)
 }

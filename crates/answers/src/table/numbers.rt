@@ -13,8 +13,7 @@ fn stray_edge(numbers: &[u32], keys: u32, rows: usize) -> Option<(Row, Key)>
     ensures { MatchOption result (NoneStray keys numbers.now rows) (λ e. Stray keys numbers.now rows e.0.0 e.1.0) }
 {
     let width = keys as usize + 1;
-    for i in 0..rows {
-        let row = &numbers[i * width..i * width + width];
+    for (i, row) in numbers.chunks_exact(width).enumerate() {
         if let Some(key) = makes::stray_key(row, keys, rows) {
             return Some((Row(i), key));
         }
@@ -30,7 +29,7 @@ impl Table {
         if keys < 1 {
             return Err(TableFault::NoKeys);
         }
-        if keys > 64 {
+        if keys > makes::MOST_KEYS {
             return Err(TableFault::ManyKeys(keys));
         }
         let rows = numbers.len() / (keys + 1);
@@ -46,9 +45,7 @@ impl Table {
         if let Some((row, key)) = stray_edge(numbers, keys as u32, rows) {
             return Err(TableFault::NoSuchRow(row, key));
         }
-        match Vec::from_slice(heap, numbers) {
-            Ok(cells) => Ok(Table { keys, rows, cells }),
-            Err(_) => Err(TableFault::Memory),
-        }
+        let cells = Vec::from_slice(heap, numbers)?;
+        Ok(Table { keys, rows, cells })
     }
 }

@@ -47,45 +47,28 @@ impl Table {
     pub fn row_shown(&self, row: Row) -> Option<u32>
         ensures { MatchOption result (rows_of self.now ≤ row.0) (λ m. (row.0 < rows_of self.now) × (m ≡ row_shows (keys_of self.now) (cells_of self.now) row.0)) }
     {
-        if row.0 < self.rows {
-            Some(self.shown_at(row))
-        } else {
-            None
-        }
+        (row.0 < self.rows).then(|| self.shown_at(row))
     }
 
     // Where the key leads from the row, if there are such a row and such a key.
     pub fn next(&self, row: Row, key: Key) -> Option<Row>
         ensures { Next self.now row.0 key.0 result }
     {
-        if row.0 < self.rows && (key.0 as usize) < self.keys {
-            Some(self.follow(row, key))
-        } else {
-            None
-        }
+        let within = row.0 < self.rows && (key.0 as usize) < self.keys;
+        within.then(|| self.follow(row, key))
     }
 
     // The row that the word leads to from row 0, unless the word has other keys.
     pub fn lead(&self, word: &[u32]) -> Option<Row>
         ensures { Lead self.now word.now result }
     {
-        let mut at = Row(0);
-        for x in word {
-            if *x as usize >= self.keys {
-                return None;
-            }
-            at = self.follow(at, Key(*x));
-        }
-        Some(at)
+        word.iter().try_fold(Row(0), |at, x| self.next(at, Key(*x)))
     }
 
     // What the table shows after the word, unless the word has other keys.
     pub fn shows(&self, word: &[u32]) -> Option<u32>
         ensures { Shows self.now word.now result }
     {
-        match self.lead(word) {
-            Some(row) => self.row_shown(row),
-            None => None,
-        }
+        self.lead(word).and_then(|row| self.row_shown(row))
     }
 }

@@ -1,20 +1,19 @@
-use Rattle.std.proofs.Common.{◌+◌, drop, vec_items, sym, ap, ◌∙◌, inr}
-use Rattle.std.proofs.lemmas.List.{at_drop_all}
+use Rattle.std.proofs.Common.{refl, ap, subst, ◌∙◌, inr}
+use Rattle.std.proofs.lemmas.List.{nil_from_length}
 use Rattle.formats.specs.Lines.{word_on}
-use Rattle.formats.proofs.Turns.{at_token}
+use Rattle.formats.specs.Numbers.{BeginsWithNoNumber}
+use Rattle.formats.proofs.Turns.{word_after, is_colon}
 use Rattle.formats.proofs.rows.last_word.Goals as goal
 
-pub loop-token-preserved : goal.loop-token-preserved
-loop-token-preserved c =
-    ap (λ w. word_on w (drop (c.loop-token.token-index + 1) c.args.tokens.now)) c.in_ok-push-in-Number.ensures.items
-    ∙ sym (at_token _ _ c.loop-token-test.true (word_on (vec_items c.loop-token.word)) _ c.in-Number.is)
-    ∙ c.loop-token.invariant
-
-pub returns-in-Colon : goal.returns-in-Colon
-returns-in-Colon c = inr (sym c.loop-token.invariant ∙ at_token _ _ c.loop-token-test.true (word_on _) _ c.in-Colon.is)
+pub returns-in_default : goal.returns-in_default
+returns-in_default c =
+    word_after _ _ _ c.in_ok-word.ensures ∙ ap (word_on _) (nil_from_length _ c.in_default.ensures.cases)
 
 pub returns-in-At : goal.returns-in-At
-returns-in-At c = inr (sym c.loop-token.invariant ∙ at_token _ _ c.loop-token-test.true (word_on _) _ c.in-At.is)
+returns-in-At c = rw (word_after _ _ _ c.in_ok-word.ensures, c.in-Some.ensures.cases.0, c.in-At.is) (inr refl)
 
 pub returns : goal.returns
-returns c = sym c.loop-token.invariant ∙ at_drop_all (word_on _) _ _ c.loop-token-test.false
+returns c =
+    let rest = c.in-Some.ensures.cases.0 in
+    let mark = is_colon _ _ (subst BeginsWithNoNumber rest c.in_ok-word.ensures.no_more) c.in_default-mark.not-At in
+    rw (word_after _ _ _ c.in_ok-word.ensures, rest, mark) (inr refl)

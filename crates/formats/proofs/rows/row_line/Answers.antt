@@ -1,31 +1,26 @@
-use Rattle.std.proofs.Common.{◌+◌, drop, vec_items, sym, ap, ◌∙◌, inl, inr, ⊎_elim}
-use Rattle.std.proofs.lemmas.List.{at_drop_all}
+use Rattle.std.proofs.Common.{refl, subst, ⊎_elim, inl, inr}
+use Rattle.std.proofs.lemmas.List.{nil_from_length}
 use Rattle.std.proofs.lemmas.Result.{err_from_is_err_and}
-use Rattle.formats.specs.Lines.{row_on}
-use Rattle.formats.proofs.Turns.{at_token, at_at}
+use Rattle.formats.specs.Numbers.{BeginsWithNoNumber}
+use Rattle.formats.proofs.Turns.{row_after, is_colon}
 use Rattle.formats.proofs.rows.row_line.Goals as goal
 
-pub loop-i-preserved : goal.loop-i-preserved
-loop-i-preserved c =
-    ap (λ ns. row_on ns (drop (c.loop-i.i + 1) c.args.tokens.now)) c.in_ok-push-in-Number.ensures.items
-    ∙ sym (at_token _ _ c.loop-i-test.true (row_on (vec_items c.loop-i.numbers)) _ c.in-Number.is)
-    ∙ c.loop-i.invariant
-
-pub returns-in-Colon : goal.returns-in-Colon
-returns-in-Colon c = inr (sym c.loop-i.invariant ∙ at_token _ _ c.loop-i-test.true (row_on _) _ c.in-Colon.is)
+pub returns-in_default : goal.returns-in_default
+returns-in_default c =
+    rw (row_after _ _ _ c.in_ok-numbers.ensures, nil_from_length _ c.in_default.ensures.cases) c.row_of.ensures
 
 pub returns-in_err-word-in-At : goal.returns-in_err-word-in-At
 returns-in_err-word-in-At c =
     let p = err_from_is_err_and c.from_residual-in_err-word-in-At.result c.from_residual-in_err-word-in-At.ensures.1 in
-    rw (p.1, p.2)
-    (⊎_elim inl (λ e. inr (sym c.loop-i.invariant ∙ at_at _ _ c.loop-i-test.true _ _ c.in-At.is e)) c.in_err-word-in-At.ensures)
+    rw (p.1, p.2, row_after _ _ _ c.in_ok-numbers.ensures, c.in-Some.ensures.cases.0, c.in-At.is)
+    (⊎_elim inl (λ e. inr (rw e)) c.in_err-word-in-At.ensures)
 
-pub returns-in-At : goal.returns-in-At
-returns-in-At c =
-    let is = sym c.loop-i.invariant ∙ at_at _ _ c.loop-i-test.true _ _ c.in-At.is c.in_ok-word-in-At.ensures in
-    rw is c.row_of.ensures
+pub returns-in_ok-word-in-At : goal.returns-in_ok-word-in-At
+returns-in_ok-word-in-At c =
+    rw (row_after _ _ _ c.in_ok-numbers.ensures, c.in-Some.ensures.cases.0, c.in-At.is, c.in_ok-word-in-At.ensures) c.row_of-in-At.ensures
 
-pub returns : goal.returns
-returns c =
-    let is = sym c.loop-i.invariant ∙ at_drop_all (row_on (vec_items c.loop-i.numbers)) _ _ c.loop-i-test.false in
-    rw is c.row_of-2.ensures
+pub returns-in_default-mark : goal.returns-in_default-mark
+returns-in_default-mark c =
+    let rest = c.in-Some.ensures.cases.0 in
+    let mark = is_colon _ _ (subst BeginsWithNoNumber rest c.in_ok-numbers.ensures.no_more) c.in_default-mark.not-At in
+    rw (row_after _ _ _ c.in_ok-numbers.ensures, rest, mark) (inr refl)

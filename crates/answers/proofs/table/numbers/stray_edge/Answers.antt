@@ -1,24 +1,34 @@
-use Rattle.std.proofs.Common.{ℕ, ◌+◌, ◌<◌, ◌≤◌, subst, arith, below_more}
+use Rattle.std.proofs.Common.{rules, ◌≡◌, ℕ, ◌+◌, ◌*◌, ◌<◌, ◌++◌, length, drop, sym, ap, ◌∙◌, subst, arith, below_more}
+use Rattle.std.specs.Iterator.Adapters.{enumerate_source, enumerate_count}
+use Rattle.std.specs.Slice.Iter.{chunks_exact_rest}
 use Rattle.machines.specs.Tables.{next}
-use Rattle.answers.proofs.Rows.{row_within, next_in_row}
+use Rattle.answers.proofs.Rows.{next_in_chunk, rest_more, no_more_rows}
 use Rattle.answers.proofs.table.numbers.stray_edge.Goals as goal
 
-pub offset_bounds-numbers-i : goal.offset_bounds-numbers-i
-offset_bounds-numbers-i c = omega (arith, row_within c.loop-i.i c.args.rows (c.args.keys + 1) c.loop-i-test.true)
-
-pub slice_bounds-row-end : goal.slice_bounds-row-end
-slice_bounds-row-end c = omega (arith, row_within c.loop-i.i c.args.rows (c.args.keys + 1) c.loop-i-test.true)
-
-pub returns-in-Some : goal.returns-in-Some
-returns-in-Some c =
-    let stray = c.in-Some.ensures in
-    record {
-      row = c.loop-i-test.true;
-      key = stray.0;
-      leads = subst (λ (z : ℕ). c.args.rows ≤ z) (next_in_row c.args.keys c.args.numbers.now c.loop-i.i c.in-Some.key.0 stray.0) stray.1;
-    }
-
 pub loop-i-preserved : goal.loop-i-preserved
-loop-i-preserved c = λ j x below key.
-    below_more (λ (i : ℕ). (y : ℕ) → y < c.args.keys → next c.args.keys c.args.numbers.now i y < c.args.rows) c.loop-i.i (λ i h y. c.loop-i.invariant i y h)
-    (λ y h. subst (λ (z : ℕ). z < c.args.rows) (next_in_row c.args.keys c.args.numbers.now c.loop-i.i y h) (c.in_default.ensures y h)) j below x key
+loop-i-preserved c =
+    let k = c.args.keys in
+    let t = c.args.numbers.now in
+    let i = enumerate_count c.loop-i.i-iterator in
+    let sofar = c.loop-i.invariant.2 in
+    let step = c.in-Some.ensures.steps in
+    let rest = chunks_exact_rest (enumerate_source c.next.new.self) in
+    let cut : drop (i * (k + 1)) t ≡ c.in-Some.row.now ++ rest = sym sofar.rest ∙ step.0.1.0 in
+    let long : length c.in-Some.row.now ≡ k + 1 = step.0.1.1 ∙ sofar.size in (
+      search rules,
+      search rules,
+      record {
+        size = step.0.0 ∙ sofar.size;
+        rest = rest_more (k + 1) t c.in-Some.row.now rest i cut long ∙ ap (λ (n : ℕ). drop (n * (k + 1)) t) (sym step.2);
+        sofar = λ j x hj.
+            below_more (λ (z : ℕ). (y : ℕ) → y < k → next k t z y < c.args.rows) i (λ z h y. sofar.sofar z y h)
+            (λ y h. subst (λ (z : ℕ). z < c.args.rows) (next_in_chunk k t c.in-Some.row.now rest i y cut long h) (c.in_default.ensures y h)) j (subst (λ (z : ℕ). j < z) step.2 hj) x;
+      },
+    )
+
+pub returns : goal.returns
+returns c = λ i x hi.
+    let sofar = c.loop-i.invariant.2 in
+    let step = c.in-None.ensures.steps in
+    let short : length (drop (enumerate_count c.loop-i.i-iterator * (c.args.keys + 1)) c.args.numbers.now) < c.args.keys + 1 = subst (λ (l : _). length l < c.args.keys + 1) sofar.rest (subst (λ (w : ℕ). length (chunks_exact_rest (enumerate_source c.loop-i.i-iterator)) < w) sofar.size step.0.1.0) in
+    sofar.sofar i x (omega (arith, hi, no_more_rows (c.args.keys + 1) c.args.rows c.args.numbers.now (enumerate_count c.loop-i.i-iterator) c.requires.long short))

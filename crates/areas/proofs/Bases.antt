@@ -10,7 +10,7 @@ use Rattle.areas.specs.Shapes.{dims}
 
 -- A shape keeps the limits.
 pub limits_of : (s : Shape) → Limits (dims s)
-limits_of s = record { some_keys = s.some_keys; few_keys = s.few_keys; some_states = s.some_states; few_states = s.few_states; fits = s.fits }
+limits_of s = record { some_keys = s.counts.some_keys; few_keys = s.counts.few_keys; some_states = s.counts.some_states; few_states = s.counts.few_states; fits = s.fits }
 
 -- Where an area begins does not depend on the memory's length.
 pub base_any_length : (keys most l l' : ℕ) (a : Area) → base_of (sized keys most l) a ≡ base_of (sized keys most l') a

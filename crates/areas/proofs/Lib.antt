@@ -7,3 +7,4 @@ pub mod Middle
 pub mod Entries
 pub mod Ends
 pub mod Sums
+pub mod Memories

@@ -7,3 +7,4 @@ pub mod Frames
 pub mod Bulk
 pub mod Records
 pub mod Spans
+pub mod Memories

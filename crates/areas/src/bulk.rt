@@ -1,67 +1,60 @@
-// Many words of an area at once: a word's letters written from a place on, and areas that are cleared.
+// Many words of an area at once: a part that is read, a word's letters written from a place on, and areas that are cleared.
 ghost use Rattle.std.specs.Prelude.{◌≡◌, length, replicate};
 ghost use Rattle.areas.specs.Bulk.{laid, Copied, Cleared, ClearedBefore};
 ghost use Rattle.areas.specs.Layout.{area_of};
-ghost use Rattle.areas.specs.Shapes.{dims};
+ghost use Rattle.areas.specs.Memories.{Reads, Writes};
 
 use crate::area::Area;
-use crate::shape::Shape;
+use crate::memory::Memory;
 
 // Writes the letters from the start on, as far as both go.
 fn copy_front(part: &mut [u32], word: &[u32])
     ensures { part.new ≡ laid part.old 0 word.now }
 {
-    for i in 0..part.len().min(word.len()) {
-        part[i] = word[i];
-    }
+    let count = part.len().min(word.len());
+    part[..count].copy_from_slice(&word[..count]);
 }
 
-fn zero(part: &mut [u32])
-    ensures { part.new ≡ replicate (length part.old) 0 }
-{
-    for x in part.iter_mut() {
-        *x = 0;
+impl Memory<'_> {
+    // How many words of the area the memory has.
+    pub fn reach(&self, area: Area) -> usize
+        ensures { Reads self.now (λ w d. result ≡ length (area_of w d area)) }
+    {
+        let base = self.shape.base(area);
+        if base < self.words.len() {
+            self.shape.size(area).min(self.words.len() - base)
+        } else {
+            0
+        }
     }
-}
 
-// How many words of the area the memory has.
-pub fn reach(store: &[u32], shape: Shape, area: Area) -> usize
-    ensures { result ≡ length (area_of store.now (dims shape) area) }
-{
-    let base = shape.base(area);
-    if base < store.len() {
-        shape.size(area).min(store.len() - base)
-    } else {
-        0
+    // Writes the word's letters from a place of the area on, as far as the area goes.
+    pub fn copy_in(&mut self, area: Area, at: usize, word: &[u32])
+        ensures { Writes self.old self.new (λ w w' d. Copied w w' d area at word.now) }
+    {
+        let base = self.shape.base(area);
+        let reach = self.reach(area);
+        if at < reach {
+            copy_front(&mut self.words[base + at..base + reach], word);
+        }
     }
-}
 
-// Writes the word's letters from a place of the area on, as far as the area goes.
-pub fn copy_in(store: &mut [u32], shape: Shape, area: Area, at: usize, word: &[u32])
-    ensures { Copied store.old store.new (dims shape) area at word.now }
-{
-    let base = shape.base(area);
-    let reach = reach(store, shape, area);
-    if at < reach {
-        copy_front(&mut store[base + at..base + reach], word);
+    // Makes each word of the area 0.
+    pub fn clear(&mut self, area: Area)
+        ensures { Writes self.old self.new (λ w w' d. Cleared w w' d area) }
+    {
+        let base = self.shape.base(area);
+        let reach = self.reach(area);
+        if reach > 0 {
+            self.words[base..base + reach].fill(0);
+        }
     }
-}
 
-// Makes each word of the area 0.
-pub fn clear(store: &mut [u32], shape: Shape, area: Area)
-    ensures { Cleared store.old store.new (dims shape) area }
-{
-    let base = shape.base(area);
-    let reach = reach(store, shape, area);
-    if reach > 0 {
-        zero(&mut store[base..base + reach]);
+    // Makes each word of the areas before this one 0.
+    pub fn clear_before(&mut self, area: Area)
+        ensures { Writes self.old self.new (λ w w' d. ClearedBefore w w' d area) }
+    {
+        let end = self.words.len().min(self.shape.base(area));
+        self.words[0..end].fill(0);
     }
-}
-
-// Makes each word of the areas before this one 0.
-pub fn clear_before(store: &mut [u32], shape: Shape, area: Area)
-    ensures { ClearedBefore store.old store.new (dims shape) area }
-{
-    let end = store.len().min(shape.base(area));
-    zero(&mut store[0..end]);
 }

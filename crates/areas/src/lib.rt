@@ -3,6 +3,7 @@
 
 pub mod area;
 pub mod bulk;
+pub mod memory;
 pub mod places;
 pub mod records;
 pub mod shape;

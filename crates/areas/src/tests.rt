@@ -1,8 +1,7 @@
 // Shapes at their limits, and reads and writes at the ends of areas.
 use crate::area::Area;
-use crate::bulk::{clear_before, copy_in};
-use crate::places::{load, save};
-use crate::records::{Record, record_at, save_record};
+use crate::memory::Memory;
+use crate::records::Record;
 use crate::shape::Shape;
 use std::test::Fail;
 
@@ -22,29 +21,37 @@ fn limits(rt: HostRuntime) -> Result<(), Fail> {
 
 #[test]
 fn area_ends(rt: HostRuntime) -> Result<(), Fail> {
-    let mut store = [5; 620];
+    let mut words = [5; 620];
     let Some(shape) = Shape::new(1, 1, 620) else {
         return Err(Fail::new("small"));
     };
+    let mut memory = Memory {
+        words: &mut words,
+        shape,
+    };
     assert_eq!(rt; shape.size(Area::Letters), 9);
-    save(&mut store, shape, Area::Header, 63, 1);
-    save(&mut store, shape, Area::Header, 64, 2);
-    assert_eq!(rt; load(&store, shape, Area::Header, 63), 1);
-    assert_eq!(rt; load(&store, shape, Area::Header, 64), 0);
-    assert_eq!(rt; load(&store, shape, Area::Edges, 0), 5);
-    copy_in(&mut store, shape, Area::Letters, 8, &[3, 4]);
-    assert_eq!(rt; load(&store, shape, Area::Letters, 8), 3);
-    clear_before(&mut store, shape, Area::Answers);
-    assert_eq!(rt; load(&store, shape, Area::Successors, 1), 0);
-    assert_eq!(rt; load(&store, shape, Area::Answers, 0), 5);
+    memory.save(Area::Header, 63, 1);
+    memory.save(Area::Header, 64, 2);
+    assert_eq!(rt; memory.load(Area::Header, 63), 1);
+    assert_eq!(rt; memory.load(Area::Header, 64), 0);
+    assert_eq!(rt; memory.load(Area::Edges, 0), 5);
+    memory.copy_in(Area::Letters, 8, &[3, 4]);
+    assert_eq!(rt; memory.load(Area::Letters, 8), 3);
+    memory.clear_before(Area::Answers);
+    assert_eq!(rt; memory.load(Area::Successors, 1), 0);
+    assert_eq!(rt; memory.load(Area::Answers, 0), 5);
     Ok(())
 }
 
 #[test]
 fn wide_records(rt: HostRuntime) -> Result<(), Fail> {
-    let mut store = [0; 620];
+    let mut words = [0; 620];
     let Some(shape) = Shape::new(1, 1, 620) else {
         return Err(Fail::new("small"));
+    };
+    let mut memory = Memory {
+        words: &mut words,
+        shape,
     };
     let last = 66;
     assert_eq!(rt; shape.answers(), last + 1);
@@ -55,10 +62,10 @@ fn wide_records(rt: HostRuntime) -> Result<(), Fail> {
         size: 7,
         shown: 4294967295,
     };
-    save_record(&mut store, shape, last, answer);
-    let read = record_at(&store, shape, last);
+    memory.save_record(last, answer);
+    let read = memory.record_at(last);
     assert_eq!(rt; read.start, 5000000000);
     assert_eq!(rt; read.shown, 4294967295);
-    assert_eq!(rt; record_at(&store, shape, last + 1).start, 0);
+    assert_eq!(rt; memory.record_at(last + 1).start, 0);
     Ok(())
 }

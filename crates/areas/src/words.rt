@@ -5,7 +5,7 @@ ghost use Rattle.areas.specs.Words.{wide, set_wide};
 pub fn get(store: &[u32], i: usize) -> u32
     ensures { result ≡ slice_index store.now i }
 {
-    if i < store.len() { store[i] } else { 0 }
+    store.get(i).copied().unwrap_or(0)
 }
 
 pub fn put(store: &mut [u32], i: usize, v: u32)
@@ -38,6 +38,7 @@ pub(crate) fn high(v: usize) -> u32
     (v / RADIX) as u32
 }
 
+// A number of two words is read and written by functions of its own, since each of its words may lie past the end.
 pub fn get_wide(store: &[u32], i: usize) -> usize
     ensures { result ≡ wide store.now i }
 {

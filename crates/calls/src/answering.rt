@@ -2,6 +2,7 @@
 ghost use Rattle.promises.specs.Promises.{ToldSays};
 ghost use Rattle.store.specs.Reading.{state_of};
 
+use areas::memory::Memory;
 use filling::hear_cell;
 use moves::opening::read_shape;
 use moves::phase::{Phase, phase_of};
@@ -15,13 +16,17 @@ pub fn told(store: &mut [u32], answer: u32) -> Given
     let Some(shape) = read_shape(store) else {
         return Given::Unstored;
     };
-    match phase_of(store, shape) {
+    let mut memory = Memory {
+        words: store,
+        shape,
+    };
+    match phase_of(&memory) {
         Phase::AsksCell(edge, suffix) => {
-            hear_cell(store, shape, edge, suffix, answer);
+            hear_cell(&mut memory, edge, suffix, answer);
             Given::Taken
         }
         Phase::AsksMiddle(search) => {
-            hear_middle(store, shape, search, answer);
+            hear_middle(&mut memory, search, answer);
             Given::Taken
         }
         _ => Given::NotAsked,

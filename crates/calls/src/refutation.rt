@@ -3,6 +3,7 @@ ghost use Rattle.std.specs.Prelude.{length};
 ghost use Rattle.promises.specs.Promises.{RefutedSays};
 ghost use Rattle.store.specs.Reading.{state_of};
 
+use areas::memory::Memory;
 use moves::opening::read_shape;
 use moves::phase::{Phase, phase_of};
 use promises::Given;
@@ -15,18 +16,22 @@ pub fn refuted(store: &mut [u32], word: &[u32], answer: u32) -> Given
     let Some(shape) = read_shape(store) else {
         return Given::Unstored;
     };
-    let Phase::ShowsTable = phase_of(store, shape) else {
+    let mut memory = Memory {
+        words: store,
+        shape,
+    };
+    let Phase::ShowsTable = phase_of(&memory) else {
         return Given::NotAsked;
     };
     if !of_keys(word, shape.keys()) {
         return Given::NoRefute;
     }
-    if shown_after(store, shape, word) == answer {
+    if shown_after(&memory, word) == answer {
         return Given::NoRefute;
     }
-    if !has_room(store, shape, word.len()) {
+    if !has_room(&memory, word.len()) {
         return Given::Full;
     }
-    refute(store, shape, word, answer);
+    refute(&mut memory, word, answer);
     Given::Taken
 }

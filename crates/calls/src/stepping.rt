@@ -1,13 +1,13 @@
 // What is wanted next.
 ghost use Rattle.std.specs.Prelude.{◌<◌, ◌≤◌, length, MatchBool};
-ghost use Rattle.areas.specs.Shapes.{dims};
+ghost use Rattle.areas.specs.Memories.{Reads};
 ghost use Rattle.model.specs.States.{out_words};
 ghost use Rattle.promises.specs.Promises.{NextSays};
 ghost use Rattle.store.specs.Reading.{state_of};
 ghost use Rattle.moves.specs.Holding.{Holds};
 ghost use Rattle.moves.specs.Observed.{page_at};
 
-use areas::shape::Shape;
+use areas::memory::Memory;
 use moves::counters;
 use moves::opening::read_shape;
 use promises::Wanted;
@@ -15,13 +15,13 @@ use rounds::settle;
 use writing::wanted;
 
 // Whether out might be too short for a question or a table.
-fn is_short(store: &[u32], shape: Shape, out: &[u32]) -> bool
-    ensures { Holds store.now (dims shape) → MatchBool result (length out.now < out_words (dims shape).keys (dims shape).most (length (page_at store.now (dims shape)).log)) (out_words (dims shape).keys (dims shape).most (length (page_at store.now (dims shape)).log) ≤ length out.now) }
+fn is_short(memory: &Memory<'_>, out: &[u32]) -> bool
+    ensures { Reads memory.now (λ w d. Holds w d → MatchBool result (length out.now < out_words d.keys d.most (length (page_at w d).log)) (out_words d.keys d.most (length (page_at w d).log) ≤ length out.now)) }
 {
-    let keys = shape.keys() as usize;
-    let most = shape.most() as usize;
+    let keys = memory.shape.keys() as usize;
+    let most = memory.shape.most() as usize;
     let table = (keys + 1) * (most + 1) + most;
-    out.len() < table || out.len() - table < counters::letters(store, shape)
+    out.len() < table || out.len() - table < counters::letters(memory)
 }
 
 // A word to ask about, a table to look at, or that the box is larger or an answer was wrong.
@@ -31,9 +31,13 @@ pub fn step(store: &mut [u32], out: &mut [u32]) -> Wanted
     let Some(shape) = read_shape(store) else {
         return Wanted::NoStore;
     };
-    if is_short(store, shape, out) {
+    let mut memory = Memory {
+        words: store,
+        shape,
+    };
+    if is_short(&memory, out) {
         return Wanted::Short;
     }
-    settle(store, shape);
-    wanted(store, shape, out)
+    settle(&mut memory);
+    wanted(&memory, out)
 }

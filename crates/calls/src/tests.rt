@@ -42,18 +42,11 @@ fn learnt(rt: HostRuntime) -> Result<(), Fail> {
     begin(2, 2, 10, &mut store);
     let (asked, wanted) = answer_all(&mut store, &mut out);
     assert_eq!(rt; asked, 5);
-    let Wanted::Table(rows) = wanted else {
-        return Err(Fail::new("no table"));
-    };
-    assert_eq!(rt; rows, 2);
+    assert_eq!(rt; wanted, Wanted::Table(2));
     assert_eq!(rt; (out[0], out[1], out[2]), (0, 0, 1));
     assert_eq!(rt; (out[3], out[4], out[5], out[6]), (9, 1, 0, 7));
-    let Given::NoRefute = refuted(&mut store, &[1, 0], 9) else {
-        return Err(Fail::new("no refutation was taken"));
-    };
-    let Given::Taken = refuted(&mut store, &[0, 1, 1, 0], 5) else {
-        return Err(Fail::new("a refutation was not taken"));
-    };
+    assert_eq!(rt; refuted(&mut store, &[1, 0], 9), Given::NoRefute);
+    assert_eq!(rt; refuted(&mut store, &[0, 1, 1, 0], 5), Given::Taken);
     Ok(())
 }
 
@@ -64,31 +57,19 @@ fn larger(rt: HostRuntime) -> Result<(), Fail> {
     begin(2, 1, 10, &mut store);
     let (asked, wanted) = answer_all(&mut store, &mut out);
     assert!(rt; asked <= 3);
-    match wanted {
-        Wanted::Larger => Ok(()),
-        _ => Err(Fail::new("not larger")),
-    }
+    assert_eq!(rt; wanted, Wanted::Larger);
+    Ok(())
 }
 
 #[test]
-fn refusals() -> Result<(), Fail> {
+fn refusals(rt: HostRuntime) -> Result<(), Fail> {
     let mut store = [0; 8000];
     let mut out = [7; 40];
-    let Wanted::NoStore = step(&mut store, &mut out) else {
-        return Err(Fail::new("zeros were taken for a store"));
-    };
-    let Given::Unstored = told(&mut store, 1) else {
-        return Err(Fail::new("zeros were taken for a store"));
-    };
+    assert_eq!(rt; step(&mut store, &mut out), Wanted::NoStore);
+    assert_eq!(rt; told(&mut store, 1), Given::Unstored);
     begin(2, 2, 10, &mut store);
-    let Given::NotAsked = told(&mut store, 1) else {
-        return Err(Fail::new("nothing was asked"));
-    };
-    let Given::NotAsked = refuted(&mut store, &[0], 1) else {
-        return Err(Fail::new("nothing was shown"));
-    };
-    match step(&mut store, &mut out[0..10]) {
-        Wanted::Short => Ok(()),
-        _ => Err(Fail::new("out is too short")),
-    }
+    assert_eq!(rt; told(&mut store, 1), Given::NotAsked);
+    assert_eq!(rt; refuted(&mut store, &[0], 1), Given::NotAsked);
+    assert_eq!(rt; step(&mut store, &mut out[0..10]), Wanted::Short);
+    Ok(())
 }

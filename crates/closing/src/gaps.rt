@@ -1,8 +1,8 @@
 // The first cell without an answer.
-ghost use Rattle.areas.specs.Shapes.{dims};
+ghost use Rattle.areas.specs.Memories.{Reads};
 ghost use Rattle.closing.specs.Missing.{GapFound};
 
-use areas::shape::Shape;
+use areas::memory::Memory;
 use moves::cells::cell;
 use moves::counters;
 use moves::numbers::Edge;
@@ -15,15 +15,15 @@ pub struct Gap {
 }
 
 // The first cell in use without an answer; none where the table is full.
-pub fn first_gap(store: &[u32], shape: Shape) -> Option<Gap>
-    ensures { GapFound store.now (dims shape) result }
+pub fn first_gap(memory: &Memory<'_>) -> Option<Gap>
+    ensures { Reads memory.now (λ w d. GapFound w d result) }
 {
-    let rows = counters::rows(store, shape).min(shape.most());
-    let suffixes = counters::suffixes(store, shape);
-    for u in 0..rows * shape.keys() + 1 {
+    let rows = counters::rows(memory).min(memory.shape.most());
+    let suffixes = counters::suffixes(memory);
+    for u in 0..rows * memory.shape.keys() + 1 {
         for suffix in 0..suffixes {
             let edge = Edge(u);
-            if cell(store, shape, edge, suffix) == 0 {
+            if cell(memory, edge, suffix).is_none() {
                 return Some(Gap { edge, suffix });
             }
         }

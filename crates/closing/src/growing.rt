@@ -1,23 +1,23 @@
 // An edge that differs from all rows.
-ghost use Rattle.areas.specs.Shapes.{dims};
+ghost use Rattle.areas.specs.Memories.{Writes};
 ghost use Rattle.moves.specs.Holding.{Rounded};
 ghost use Rattle.closing.specs.Leading.{Strays};
 
-use areas::shape::Shape;
+use areas::memory::Memory;
 use moves::counters;
 use moves::numbers::Edge;
 use moves::phase::{Phase, enter};
 use moves::rows::add_row;
 
 // The edge becomes a row, and the answer is true; where there are as many rows as there may be, it shows that the box is larger.
-pub fn grow(store: &mut [u32], shape: Shape, edge: Edge) -> bool
-    ensures { Strays store.old (dims shape) edge.0 → Rounded store.old store.new (dims shape) result }
+pub fn grow(memory: &mut Memory<'_>, edge: Edge) -> bool
+    ensures { Writes memory.old memory.new (λ w w' d. Strays w d edge.0 → Rounded w w' d result) }
 {
-    if counters::rows(store, shape) < shape.most() {
-        add_row(store, shape, edge);
+    if counters::rows(memory) < memory.shape.most() {
+        add_row(memory, edge);
         true
     } else {
-        enter(store, shape, Phase::Larger(edge));
+        enter(memory, Phase::Larger(edge));
         false
     }
 }

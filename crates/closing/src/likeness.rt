@@ -1,33 +1,21 @@
 // Which row an edge is like.
 ghost use Rattle.std.specs.Prelude.{◌≡◌, Decides};
-ghost use Rattle.areas.specs.Shapes.{dims};
+ghost use Rattle.areas.specs.Memories.{Reads};
 ghost use Rattle.moves.specs.Observed.{seen_value};
 ghost use Rattle.closing.specs.Missing.{Difference, Likeness};
 
-use areas::shape::Shape;
+use areas::memory::Memory;
 use moves::cells::seen;
 use moves::counters;
 use moves::numbers::{Edge, Row};
 use moves::rows::edge_of;
 
-// Whether the same is seen in two cells.
-fn agree(left: Option<u32>, right: Option<u32>) -> bool
-    ensures { Decides result (seen_value left ≡ seen_value right) }
-{
-    match (left, right) {
-        (None, None) => true,
-        (Some(x), Some(y)) => x == y,
-        _ => false,
-    }
-}
-
 // The first suffix before which two edges show different things.
-pub fn differ(store: &[u32], shape: Shape, left: Edge, right: Edge) -> Option<u32>
-    ensures { Difference store.now (dims shape) left.0 right.0 result }
+pub fn differ(memory: &Memory<'_>, left: Edge, right: Edge) -> Option<u32>
+    ensures { Reads memory.now (λ w d. Difference w d left.0 right.0 result) }
 {
-    for suffix in 0..counters::suffixes(store, shape) {
-        let shown = seen(store, shape, left, suffix);
-        if !agree(shown, seen(store, shape, right, suffix)) {
+    for suffix in 0..counters::suffixes(memory) {
+        if seen(memory, left, suffix) != seen(memory, right, suffix) {
             return Some(suffix);
         }
     }
@@ -35,12 +23,12 @@ pub fn differ(store: &[u32], shape: Shape, left: Edge, right: Edge) -> Option<u3
 }
 
 // The first row that an edge is like; none where it differs from all rows.
-pub fn row_like(store: &[u32], shape: Shape, edge: Edge) -> Option<Row>
-    ensures { Likeness store.now (dims shape) edge.0 result }
+pub fn row_like(memory: &Memory<'_>, edge: Edge) -> Option<Row>
+    ensures { Reads memory.now (λ w d. Likeness w d edge.0 result) }
 {
-    for j in 0..counters::rows(store, shape) {
+    for j in 0..counters::rows(memory) {
         let row = Row(j);
-        if differ(store, shape, edge, edge_of(store, shape, row)).is_none() {
+        if differ(memory, edge, edge_of(memory, row)).is_none() {
             return Some(row);
         }
     }

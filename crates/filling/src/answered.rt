@@ -1,20 +1,20 @@
 // The answer to a cell's word, as it is kept.
 ghost use Rattle.std.specs.Prelude.{◌≡◌, ◌<◌, length};
-ghost use Rattle.areas.specs.Shapes.{dims};
+ghost use Rattle.areas.specs.Memories.{Reads};
 ghost use Rattle.model.specs.Pages.{cell_entry};
 ghost use Rattle.store.specs.Decoding.{entry_of};
 ghost use Rattle.moves.specs.Observed.{page_at};
 
+use areas::memory::Memory;
 use areas::records::Record;
-use areas::shape::Shape;
 use moves::numbers::Edge;
 use moves::suffixes;
 
 // An answer to the word of an edge with a suffix behind it.
-pub fn cell_answer(store: &[u32], shape: Shape, edge: Edge, suffix: u32, shown: u32) -> Record
-    ensures { suffix < length (page_at store.now (dims shape)).suffixes → entry_of result ≡ cell_entry (dims shape).keys (page_at store.now (dims shape)) edge.0 suffix shown }
+pub fn cell_answer(memory: &Memory<'_>, edge: Edge, suffix: u32, shown: u32) -> Record
+    ensures { Reads memory.now (λ w d. suffix < length (page_at w d).suffixes → entry_of result ≡ cell_entry d.keys (page_at w d) edge.0 suffix shown) }
 {
-    let span = suffixes::suffix(store, shape, suffix);
+    let span = suffixes::suffix(memory, suffix);
     let mut answer = Record {
         row: 0,
         key: 0,
@@ -23,8 +23,8 @@ pub fn cell_answer(store: &[u32], shape: Shape, edge: Edge, suffix: u32, shown: 
         shown,
     };
     if edge.0 > 0 {
-        answer.row = (edge.0 - 1) / shape.keys();
-        answer.key = (edge.0 - 1) % shape.keys() + 1;
+        answer.row = (edge.0 - 1) / memory.shape.keys();
+        answer.key = (edge.0 - 1) % memory.shape.keys() + 1;
     }
     answer
 }

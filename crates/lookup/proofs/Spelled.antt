@@ -1,5 +1,5 @@
 -- The words of a page, as parts of the memory.
-use Rattle.std.proofs.Common.{◌≡◌, ℕ, ◌+◌, ◌-◌, ◌*◌, ◌<◌, ◌≤◌, List, [], ◌++◌, length, get_or, take, drop, sym, ap, ◌∙◌, subst, arith}
+use Rattle.std.proofs.Common.{◌≡◌, ℕ, zero, suc, ◌+◌, ◌-◌, ◌*◌, ◌<◌, ◌≤◌, List, [], ◌∷◌, ◌++◌, length, get_or, take, drop, refl, sym, ap, ◌∙◌, subst, arith}
 use Rattle.std.proofs.lemmas.List.{length-take, take-take, drop-take, length-map, get_or-map}
 use Rattle.areas.specs.declared.area.Area.TheVariants.{Header, Access, Sizes, Answers, Letters}
 use Rattle.areas.specs.declared.records.Record.{Record}
@@ -10,6 +10,9 @@ use Rattle.model.specs.Observations.{Answer, no_answer, count, word_at}
 use Rattle.model.specs.Pages.{Entry, no_entry, keyed, answer_of, observations_of}
 use Rattle.model.proofs.Tabulating.{length-tabulate, get_d_tabulate}
 use Rattle.store.specs.Decoding.{rows_word, answers_word, letters_word, entry_of, access_in, page_of}
+use Rattle.std.specs.Option.{SomeIff}
+use Rattle.std.specs.Prelude.{Option, Some, None}
+use Rattle.spelling.specs.Spelt.{key_first}
 use Rattle.lookup.specs.Named.{part_of, named_rest, named_word, Named, AllNamed}
 
 -- A part of a list's front is a part of the list.
@@ -21,21 +24,28 @@ part_front xs n from size h =
     subst (λ (z : ℕ). drop from (take z xs) ≡ take (n - from) (drop from xs)) e (drop-take from (n - from) xs) in
     sym (ap (take size) cut ∙ take-take size (n - from) (drop from xs) (omega arith))
 
+-- A key's word less 1, where it is not 0, is the key.
+key_less : (k : ℕ) (key : Option ℕ) (r : List ℕ) → SomeIff key (1 ≤ k) (k - 1) → key_first key r ≡ keyed k r
+key_less zero None r h = refl
+key_less zero (Some x) r h = absurd (omega (arith, h.0))
+key_less (suc k) None r h = absurd (h (omega arith))
+key_less (suc k) (Some x) r h = ap (λ (z : ℕ). z ∷ r) (omega (arith, h.1))
+
 -- A key, if there is one, and letters of the log spell the rest of the word that they are named by.
-pub spelt_rest : (w : List ℕ) (d : Dims) (r : Record) (rest : List ℕ) → Named (page_of w d) r → rest ≡ part_of w d Letters r.start r.size → keyed r.key rest ≡ named_rest (page_of w d) r
+pub spelt_rest : (w : List ℕ) (d : Dims) (r : Record) (key : Option ℕ) (rest : List ℕ) → Named (page_of w d) r → SomeIff key (1 ≤ r.key) (r.key - 1) → rest ≡ part_of w d Letters r.start r.size → key_first key rest ≡ named_rest (page_of w d) r
 unfolding page_of
-spelt_rest w d r rest named g =
-    ap (keyed r.key) (g ∙ part_front (area_of w d Letters) (wide (area_of w d Header) letters_word) r.start r.size named.part_in)
+spelt_rest w d r key rest named k g =
+    key_less r.key key rest k ∙ ap (keyed r.key) (g ∙ part_front (area_of w d Letters) (wide (area_of w d Header) letters_word) r.start r.size named.part_in)
 
 -- The letters of a row's word, perhaps a key, and letters of the log spell the word that they are named by.
-pub spelt_named : (w : List ℕ) (d : Dims) (r : Record) (from size : ℕ) (front rest : List ℕ) → Named (page_of w d) r → from ≡ r.row * d.most → size ≡ get_or (area_of w d Sizes) r.row 0 → front ≡ part_of w d Access from size → rest ≡ part_of w d Letters r.start r.size → front ++ keyed r.key rest ≡ named_word (page_of w d) r
+pub spelt_named : (w : List ℕ) (d : Dims) (r : Record) (from size : ℕ) (key : Option ℕ) (front rest : List ℕ) → Named (page_of w d) r → SomeIff key (1 ≤ r.key) (r.key - 1) → from ≡ r.row * d.most → size ≡ get_or (area_of w d Sizes) r.row 0 → front ≡ part_of w d Access from size → rest ≡ part_of w d Letters r.start r.size → front ++ key_first key rest ≡ named_word (page_of w d) r
 unfolding page_of
-spelt_named w d r from size front rest named a b f g =
+spelt_named w d r from size key front rest named k a b f g =
     let rows : ℕ = get_or (area_of w d Header) rows_word 0 in
     let row : front ≡ get_or (page_of w d).access r.row [] =
     f ∙ ap (λ (z : ℕ). part_of w d Access z size) a ∙ ap (part_of w d Access (r.row * d.most)) b
     ∙ sym (get_d_tabulate rows (access_in d.most (area_of w d Sizes) (area_of w d Access)) r.row [] (omega (arith, named.row_in, length-tabulate rows (access_in d.most (area_of w d Sizes) (area_of w d Access))))) in
-    λ i. row i ++ spelt_rest w d r rest named g i
+    λ i. row i ++ spelt_rest w d r key rest named k g i
 
 -- As many answers as the header says.
 pub answers_counted : (w : List ℕ) (d : Dims) → count (observations_of (page_of w d)) ≡ get_or (area_of w d Header) answers_word 0

@@ -1,31 +1,35 @@
 // Answers found by words that are given by other parts.
 use crate::search::find;
 use areas::area::Area;
-use areas::places::save;
-use areas::records::{Record, save_record};
+use areas::memory::Memory;
+use areas::records::Record;
 use areas::shape::Shape;
 use spelling::Spelling;
 use std::test::Fail;
-use store::begin;
+use store::{begin, header};
 
 #[test]
 fn found(rt: HostRuntime) -> Result<(), Fail> {
-    let mut memory = [0; 8000];
-    begin(2, 3, 10, &mut memory);
-    let Some(shape) = Shape::new(2, 3, memory.len()) else {
+    let mut words = [0; 8000];
+    begin(2, 3, 10, &mut words);
+    let Some(shape) = Shape::new(2, 3, words.len()) else {
         return Err(Fail::new("no shape"));
+    };
+    let mut memory = Memory {
+        words: &mut words,
+        shape,
     };
     let empty = Spelling {
         front: &[],
-        key: 0,
+        key: None,
         rest: &[],
     };
     let pressed = Spelling {
         front: &[1],
-        key: 0,
+        key: None,
         rest: &[],
     };
-    assert_eq!(rt; find(&memory, shape, empty), None);
+    assert_eq!(rt; find(&memory, empty), None);
     let mut answer = Record {
         row: 0,
         key: 0,
@@ -33,11 +37,11 @@ fn found(rt: HostRuntime) -> Result<(), Fail> {
         size: 0,
         shown: 0,
     };
-    save_record(&mut memory, shape, 0, answer);
+    memory.save_record(0, answer);
     answer.key = 2;
-    save_record(&mut memory, shape, 1, answer);
-    save(&mut memory, shape, Area::Header, 5, 2);
-    assert_eq!(rt; find(&memory, shape, empty), Some(0));
-    assert_eq!(rt; find(&memory, shape, pressed), Some(1));
+    memory.save_record(1, answer);
+    memory.save(Area::Header, header::ANSWERS, 2);
+    assert_eq!(rt; find(&memory, empty), Some(0));
+    assert_eq!(rt; find(&memory, pressed), Some(1));
     Ok(())
 }

@@ -14,16 +14,14 @@ ghost use Rattle.model.specs.Models.{ModelShows, ModelRefutesAnew, ModelRefutesT
 ghost use Rattle.model.specs.Models.{ModelStartsBisection, ModelAsksMiddle, ModelHearsMiddle, ModelNarrows, ModelEndsBisection, ModelEndsMany};
 
 // The bounds in which binary digits occur.
-pub fn digits_few() -> u8
+pub fn digits_few()
     ensures digits { Digits }
     ensures few_bits { FewBits }
     ensures fits { Fits }
-{
-    0
-}
+{}
 
 // The moves by which the observation table is filled keep the invariant.
-pub fn filling_stands() -> u8
+pub fn filling_stands()
     ensures begins { Begins }
     ensures asks { AsksACell }
     ensures hears { HearsACell }
@@ -31,71 +29,57 @@ pub fn filling_stands() -> u8
     ensures adds { AddsARow }
     ensures too_many { FindsTooMany }
     ensures successors { SetsSuccessors }
-{
-    0
-}
+{}
 
 // A table that is shown or refuted keeps the invariant.
-pub fn showing_stands() -> u8
+pub fn showing_stands()
     ensures shows { ShowsATable }
     ensures anew { RefutesAnew }
     ensures told { RefutesTold }
     ensures edges { EdgesApart }
-{
-    0
-}
+{}
 
 // The moves of a search by halves keep the invariant.
-pub fn bisecting_stands() -> u8
+pub fn bisecting_stands()
     ensures starts { StartsABisection }
     ensures asks { AsksAMiddle }
     ensures hears { HearsAMiddle }
     ensures narrows { Narrows }
     ensures ends { EndsABisection }
     ensures too_many { EndsTooMany }
-{
-    0
-}
+{}
 
 // The invariant gives what is promised, and what is shown where the box is larger or an answer was wrong.
-pub fn valid_stands() -> u8
+pub fn valid_stands()
     ensures stands { ValidStands }
     ensures larger { LargerSays }
     ensures broken { BrokenSays }
-{
-    0
-}
+{}
 
 // Words are short and answers few.
-pub fn answers_few() -> u8
+pub fn answers_few()
     ensures rows { RowsShort }
     ensures asked { AskedShort }
     ensures fits { OutFits }
     ensures few { AnswersFew }
     ensures fewer { AnswersFewer }
-{
-    0
-}
+{}
 
 // While nothing is waited for, some move can be made, and after finitely many something comes.
-pub fn steps_come() -> u8
+pub fn steps_come()
     ensures turns { Turns }
     ensures bisection { BisectionTurns }
     ensures comes { StepComes }
-{
-    0
-}
+{}
 
 // The invariant is decided for each model, and what is read by its decision stands.
-pub fn reading_stands() -> u8
+pub fn reading_stands()
     ensures stands { ModelStands }
     ensures reads { ReadingsStand }
-{
-    0
-}
+{}
 
 // The moves as they are written to a page keep the invariant.
-pub fn pages_stand() -> u8
+pub fn pages_stand()
     ensures begins { ModelBegins }
     ensures asks_cell { ModelAsksCell }
     ensures hears_cell { ModelHearsCell }
@@ -112,6 +96,4 @@ pub fn pages_stand() -> u8
     ensures narrows { ModelNarrows }
     ensures ends { ModelEndsBisection }
     ensures ends_many { ModelEndsMany }
-{
-    0
-}
+{}

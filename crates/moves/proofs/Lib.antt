@@ -8,3 +8,4 @@ pub mod Spelled
 pub mod Growing
 pub mod Standing
 pub mod Holding
+pub mod Seeing

@@ -1,31 +1,31 @@
 // The answers: one more, and each by its number.
 ghost use Rattle.std.specs.Prelude.{◌≡◌, ◌<◌, length};
-ghost use Rattle.areas.specs.Shapes.{dims};
+ghost use Rattle.areas.specs.Memories.{Reads, Writes};
 ghost use Rattle.model.specs.Pages.{entry_at};
 ghost use Rattle.store.specs.Decoding.{entry_of};
 ghost use Rattle.moves.specs.Additions.{EntryAdded};
 ghost use Rattle.moves.specs.Observed.{page_at};
 
-use crate::{counters, header};
+use crate::counters;
 use areas::area::Area;
-use areas::places::save;
-use areas::records::{Record, record_at, save_record};
-use areas::shape::Shape;
+use areas::memory::Memory;
+use areas::records::Record;
+use store::header;
 
 // Answer c, where there are so many.
-pub fn entry(store: &[u32], shape: Shape, c: u32) -> Record
-    ensures { c < length (page_at store.now (dims shape)).entries → entry_of result ≡ entry_at (page_at store.now (dims shape)) c }
+pub fn entry(memory: &Memory<'_>, c: u32) -> Record
+    ensures { Reads memory.now (λ w d. c < length (page_at w d).entries → entry_of result ≡ entry_at (page_at w d) c) }
 {
-    record_at(store, shape, c as usize)
+    memory.record_at(c as usize)
 }
 
 // One answer more, where there is room.
-pub fn add_entry(store: &mut [u32], shape: Shape, answer: Record)
-    ensures { EntryAdded store.old store.new (dims shape) answer }
+pub fn add_entry(memory: &mut Memory<'_>, answer: Record)
+    ensures { Writes memory.old memory.new (λ w w' d. EntryAdded w w' d answer) }
 {
-    let count = counters::answers(store, shape);
-    if (count as usize) < shape.answers() {
-        save_record(store, shape, count as usize, answer);
-        save(store, shape, Area::Header, header::ANSWERS, count + 1);
+    let count = counters::answers(memory);
+    if (count as usize) < memory.shape.answers() {
+        memory.save_record(count as usize, answer);
+        memory.save(Area::Header, header::ANSWERS, count + 1);
     }
 }

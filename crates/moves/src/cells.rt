@@ -1,14 +1,15 @@
 // The cells of the observation table: 0, or 1 and the number of an answer.
 ghost use Rattle.std.specs.Prelude.{◌≡◌, ◌+◌, ◌*◌};
+ghost use Rattle.areas.specs.Memories.{Reads, Writes};
 ghost use Rattle.areas.specs.Shapes.{dims};
 ghost use Rattle.model.specs.Observations.{cell_at};
 ghost use Rattle.moves.specs.Additions.{CellSet};
-ghost use Rattle.moves.specs.Observed.{observed_at, SeenIn};
+ghost use Rattle.moves.specs.Observed.{observed_at, seen_value, SeenIn};
 
 use crate::answers::entry;
 use crate::numbers::Edge;
 use areas::area::Area;
-use areas::places::{load, save};
+use areas::memory::Memory;
 use areas::shape::Shape;
 
 // Where the cell of an edge and a suffix stands.
@@ -18,34 +19,28 @@ fn place(shape: Shape, edge: Edge, suffix: u32) -> usize
     edge.0 as usize * shape.most() as usize + suffix as usize
 }
 
-pub fn cell(store: &[u32], shape: Shape, edge: Edge, suffix: u32) -> u32
-    ensures { result ≡ cell_at (dims shape).most (observed_at store.now (dims shape)) edge.0 suffix }
+// The number of the answer in the cell; none where the cell is 0. Edge and suffix are given apart, since callers hold one and go through the other.
+pub fn cell(memory: &Memory<'_>, edge: Edge, suffix: u32) -> Option<u32>
+    ensures { Reads memory.now (λ w d. seen_value result ≡ cell_at d.most (observed_at w d) edge.0 suffix) }
 {
-    load(store, shape, Area::Cells, place(shape, edge, suffix))
+    let place = place(memory.shape, edge, suffix);
+    memory.load(Area::Cells, place).checked_sub(1)
 }
 
 // What the answer in the cell showed; none where the cell is 0.
-pub fn seen(store: &[u32], shape: Shape, edge: Edge, suffix: u32) -> Option<u32>
-    ensures { SeenIn store.now (dims shape) edge.0 suffix result }
+pub fn seen(memory: &Memory<'_>, edge: Edge, suffix: u32) -> Option<u32>
+    ensures { Reads memory.now (λ w d. SeenIn w d edge.0 suffix result) }
 {
-    let c = cell(store, shape, edge, suffix);
-    if c == 0 {
-        return None;
-    }
-    Some(entry(store, shape, c - 1).shown)
+    let answer = cell(memory, edge, suffix)?;
+    Some(entry(memory, answer).shown)
 }
 
 // The cell takes an answer.
-pub fn set_cell(store: &mut [u32], shape: Shape, edge: Edge, suffix: u32, answer: u32)
-    ensures { CellSet store.old store.new (dims shape) edge.0 suffix answer }
+pub fn set_cell(memory: &mut Memory<'_>, edge: Edge, suffix: u32, answer: u32)
+    ensures { Writes memory.old memory.new (λ w w' d. CellSet w w' d edge.0 suffix answer) }
 {
-    if answer < u32::MAX {
-        save(
-            store,
-            shape,
-            Area::Cells,
-            place(shape, edge, suffix),
-            answer + 1,
-        );
+    let place = place(memory.shape, edge, suffix);
+    if let Some(kept) = answer.checked_add(1) {
+        memory.save(Area::Cells, place, kept);
     }
 }

@@ -3,80 +3,79 @@ ghost use Rattle.std.specs.Prelude.{◌≡◌, length, slice_index};
 ghost use Rattle.areas.specs.declared.area.Area.TheVariants.{Header};
 ghost use Rattle.areas.specs.Words.{wide};
 ghost use Rattle.areas.specs.Layout.{area_of};
-ghost use Rattle.areas.specs.Shapes.{dims};
+ghost use Rattle.areas.specs.Memories.{Reads, Writes};
 ghost use Rattle.store.specs.Decoding.{rows_word, suffixes_word, answers_word, letters_word, model_of};
 ghost use Rattle.moves.specs.Changes.{bisected_by, refuted_times, last_shown};
 ghost use Rattle.moves.specs.Making.{LogFits, ChangesBy};
 ghost use Rattle.moves.specs.Observed.{page_at};
 
-use crate::header;
 use areas::area::Area;
-use areas::places::{load, load_wide, save};
-use areas::shape::Shape;
+use areas::memory::Memory;
+use store::header;
 
-pub fn rows(store: &[u32], shape: Shape) -> u32
-    ensures word { result ≡ slice_index (area_of store.now (dims shape) Header) rows_word }
-    ensures count { result ≡ length (page_at store.now (dims shape)).access }
+pub fn rows(memory: &Memory<'_>) -> u32
+    ensures word { Reads memory.now (λ w d. result ≡ slice_index (area_of w d Header) rows_word) }
+    ensures count { Reads memory.now (λ w d. result ≡ length (page_at w d).access) }
 {
-    load(store, shape, Area::Header, header::ROWS)
+    memory.load(Area::Header, header::ROWS)
 }
 
-pub fn suffixes(store: &[u32], shape: Shape) -> u32
-    ensures word { result ≡ slice_index (area_of store.now (dims shape) Header) suffixes_word }
-    ensures count { result ≡ length (page_at store.now (dims shape)).suffixes }
+pub fn suffixes(memory: &Memory<'_>) -> u32
+    ensures word { Reads memory.now (λ w d. result ≡ slice_index (area_of w d Header) suffixes_word) }
+    ensures count { Reads memory.now (λ w d. result ≡ length (page_at w d).suffixes) }
 {
-    load(store, shape, Area::Header, header::SUFFIXES)
+    memory.load(Area::Header, header::SUFFIXES)
 }
 
-pub fn answers(store: &[u32], shape: Shape) -> u32
-    ensures word { result ≡ slice_index (area_of store.now (dims shape) Header) answers_word }
-    ensures count { result ≡ length (page_at store.now (dims shape)).entries }
+pub fn answers(memory: &Memory<'_>) -> u32
+    ensures word { Reads memory.now (λ w d. result ≡ slice_index (area_of w d Header) answers_word) }
+    ensures count { Reads memory.now (λ w d. result ≡ length (page_at w d).entries) }
 {
-    load(store, shape, Area::Header, header::ANSWERS)
+    memory.load(Area::Header, header::ANSWERS)
 }
 
-pub fn letters(store: &[u32], shape: Shape) -> usize
-    ensures word { result ≡ wide (area_of store.now (dims shape) Header) letters_word }
-    ensures count { length store.now ≡ (dims shape).length → LogFits store.now (dims shape) → result ≡ length (page_at store.now (dims shape)).log }
+pub fn letters(memory: &Memory<'_>) -> usize
+    ensures word { Reads memory.now (λ w d. result ≡ wide (area_of w d Header) letters_word) }
+    ensures count { Reads memory.now (λ w d. length w ≡ d.length → LogFits w d → result ≡ length (page_at w d).log) }
 {
-    load_wide(store, shape, Area::Header, header::LETTERS)
+    memory.load_wide(Area::Header, header::LETTERS)
 }
 
 // How many answers were got in searches.
-pub fn bisected(store: &[u32], shape: Shape) -> u32
-    ensures { result ≡ (model_of store.now (dims shape)).bisected }
+pub fn bisected(memory: &Memory<'_>) -> u32
+    ensures { Reads memory.now (λ w d. result ≡ (model_of w d).bisected) }
 {
-    load(store, shape, Area::Header, header::BISECTED)
+    memory.load(Area::Header, header::BISECTED)
 }
 
 // How many refutations there were.
-pub fn refutes(store: &[u32], shape: Shape) -> u32
-    ensures { result ≡ (model_of store.now (dims shape)).refutes }
+pub fn refutes(memory: &Memory<'_>) -> u32
+    ensures { Reads memory.now (λ w d. result ≡ (model_of w d).refutes) }
 {
-    load(store, shape, Area::Header, header::REFUTES)
+    memory.load(Area::Header, header::REFUTES)
 }
 
 // How many rows the last table shown had.
-pub fn last(store: &[u32], shape: Shape) -> u32
-    ensures { result ≡ (model_of store.now (dims shape)).last }
+pub fn last(memory: &Memory<'_>) -> u32
+    ensures { Reads memory.now (λ w d. result ≡ (model_of w d).last) }
 {
-    load(store, shape, Area::Header, header::LAST)
+    memory.load(Area::Header, header::LAST)
 }
 
-pub fn set_bisected(store: &mut [u32], shape: Shape, times: u32)
-    ensures { ChangesBy store.old store.new (dims shape) (λ m. bisected_by m times) }
+pub fn set_bisected(memory: &mut Memory<'_>, times: u32)
+    ensures { Writes memory.old memory.new (λ w w' d. ChangesBy w w' d (λ m. bisected_by m times)) }
 {
-    save(store, shape, Area::Header, header::BISECTED, times);
+    memory.save(Area::Header, header::BISECTED, times);
 }
 
-pub fn set_refutes(store: &mut [u32], shape: Shape, times: u32)
-    ensures { ChangesBy store.old store.new (dims shape) (λ m. refuted_times m times) }
+pub fn set_refutes(memory: &mut Memory<'_>, times: u32)
+    ensures { Writes memory.old memory.new (λ w w' d. ChangesBy w w' d (λ m. refuted_times m times)) }
 {
-    save(store, shape, Area::Header, header::REFUTES, times);
+    memory.save(Area::Header, header::REFUTES, times);
 }
 
-pub fn set_last(store: &mut [u32], shape: Shape, rows: u32)
-    ensures { ChangesBy store.old store.new (dims shape) (λ m. last_shown m rows) }
+pub fn set_last(memory: &mut Memory<'_>, rows: u32)
+    ensures { Writes memory.old memory.new (λ w w' d. ChangesBy w w' d (λ m. last_shown m rows)) }
 {
-    save(store, shape, Area::Header, header::LAST, rows);
+    memory.save(Area::Header, header::LAST, rows);
 }

@@ -1,36 +1,29 @@
 // The log of letters: more of them, and each by its place.
 ghost use Rattle.std.specs.Prelude.{◌≡◌, ◌<◌, length, slice_index};
-ghost use Rattle.areas.specs.Shapes.{dims};
+ghost use Rattle.areas.specs.Memories.{Reads, Writes};
 ghost use Rattle.moves.specs.Additions.{LettersAdded};
 ghost use Rattle.moves.specs.Observed.{page_at};
 
-use crate::{counters, header};
+use crate::counters;
 use areas::area::Area;
-use areas::bulk::copy_in;
-use areas::places::{load, save_wide};
-use areas::shape::Shape;
+use areas::memory::Memory;
+use store::header;
 
 // Letter i of the log, where there are so many.
-pub fn log_letter(store: &[u32], shape: Shape, i: usize) -> u32
-    ensures { i < length (page_at store.now (dims shape)).log → result ≡ slice_index (page_at store.now (dims shape)).log i }
+pub fn log_letter(memory: &Memory<'_>, i: usize) -> u32
+    ensures { Reads memory.now (λ w d. i < length (page_at w d).log → result ≡ slice_index (page_at w d).log i) }
 {
-    load(store, shape, Area::Letters, i)
+    memory.load(Area::Letters, i)
 }
 
 // The word's letters behind the log, where there is room for all of them.
-pub fn add_letters(store: &mut [u32], shape: Shape, word: &[u32])
-    ensures { LettersAdded store.old store.new (dims shape) word.now }
+pub fn add_letters(memory: &mut Memory<'_>, word: &[u32])
+    ensures { Writes memory.old memory.new (λ w w' d. LettersAdded w w' d word.now) }
 {
-    let count = counters::letters(store, shape);
-    let room = shape.size(Area::Letters);
+    let count = counters::letters(memory);
+    let room = memory.shape.size(Area::Letters);
     if count <= room && word.len() <= room - count {
-        copy_in(store, shape, Area::Letters, count, word);
-        save_wide(
-            store,
-            shape,
-            Area::Header,
-            header::LETTERS,
-            count + word.len(),
-        );
+        memory.copy_in(Area::Letters, count, word);
+        memory.save_wide(Area::Header, header::LETTERS, count + word.len());
     }
 }

@@ -4,7 +4,6 @@
 pub mod answers;
 pub mod cells;
 pub mod counters;
-pub(crate) mod header;
 pub mod letters;
 pub mod numbers;
 pub mod opening;

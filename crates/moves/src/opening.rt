@@ -1,12 +1,9 @@
 // What a memory is laid out for, by its own first words.
 ghost use Rattle.moves.specs.Opening.{ShapeRead};
 
-use crate::header;
 use areas::shape::Shape;
 use areas::words::get;
-
-// The number that marks a memory as a store.
-const STORE_MARK: u32 = 1280263758;
+use store::{STORE_MARK, header};
 
 // The shape that the memory says; none where it can't be a store.
 pub fn read_shape(store: &[u32]) -> Option<Shape>

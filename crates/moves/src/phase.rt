@@ -2,18 +2,17 @@
 ghost use Rattle.std.specs.Prelude.{◌≡◌};
 ghost use Rattle.areas.specs.declared.area.Area.TheVariants.{Header};
 ghost use Rattle.areas.specs.Layout.{area_of};
-ghost use Rattle.areas.specs.Shapes.{dims};
+ghost use Rattle.areas.specs.Memories.{Reads, Writes};
 ghost use Rattle.areas.specs.Frames.{Rewritten};
 ghost use Rattle.model.specs.Models.{model_in};
 ghost use Rattle.store.specs.Decoding.{search_in, model_of};
 ghost use Rattle.moves.specs.Phases.{search_value, phase_value, set_search};
 ghost use Rattle.moves.specs.Making.{ChangesBy};
 
-use crate::header;
 use crate::numbers::Edge;
 use areas::area::Area;
-use areas::places::{load, load_wide, save, save_wide};
-use areas::shape::Shape;
+use areas::memory::Memory;
+use store::header;
 
 // A search by halves along an answer: its two ends, and the answers to the mixed words there.
 #[derive(Clone, Copy)]
@@ -38,67 +37,69 @@ pub enum Phase {
     Broken,
 }
 
-fn search_of(store: &[u32], shape: Shape) -> Search
-    ensures { search_value result ≡ search_in (area_of store.now (dims shape) Header) }
+fn search_of(memory: &Memory<'_>) -> Search
+    ensures { Reads memory.now (λ w d. search_value result ≡ search_in (area_of w d Header)) }
 {
     Search {
-        along: load(store, shape, Area::Header, header::FIRST),
-        low: load_wide(store, shape, Area::Header, header::LOW),
-        high: load_wide(store, shape, Area::Header, header::HIGH),
-        left: load(store, shape, Area::Header, header::SECOND),
-        right: load(store, shape, Area::Header, header::THIRD),
+        along: memory.load(Area::Header, header::FIRST),
+        low: memory.load_wide(Area::Header, header::LOW),
+        high: memory.load_wide(Area::Header, header::HIGH),
+        left: memory.load(Area::Header, header::SECOND),
+        right: memory.load(Area::Header, header::THIRD),
     }
 }
 
-pub fn phase_of(store: &[u32], shape: Shape) -> Phase
-    ensures { phase_value result ≡ (model_of store.now (dims shape)).phase }
+// The phase stands in the lent memory as a number and the words that belong to it.
+pub fn phase_of(memory: &Memory<'_>) -> Phase
+    ensures { Reads memory.now (λ w d. phase_value result ≡ (model_of w d).phase) }
 {
-    let first = load(store, shape, Area::Header, header::FIRST);
-    let second = load(store, shape, Area::Header, header::SECOND);
-    match load(store, shape, Area::Header, header::PHASE) {
+    let first = memory.load(Area::Header, header::FIRST);
+    let second = memory.load(Area::Header, header::SECOND);
+    match memory.load(Area::Header, header::PHASE) {
         0 => Phase::Filling,
         1 => Phase::AsksCell(Edge(first), second),
         2 => Phase::ShowsTable,
-        3 => Phase::Bisecting(search_of(store, shape)),
-        4 => Phase::AsksMiddle(search_of(store, shape)),
+        3 => Phase::Bisecting(search_of(memory)),
+        4 => Phase::AsksMiddle(search_of(memory)),
         5 => Phase::Larger(Edge(first)),
         _ => Phase::Broken,
     }
 }
 
-fn put_search(store: &mut [u32], shape: Shape, search: Search)
-    ensures { Rewritten store.old store.new (dims shape) Header (set_search (area_of store.old (dims shape) Header) search) }
+fn put_search(memory: &mut Memory<'_>, search: Search)
+    ensures { Writes memory.old memory.new (λ w w' d. Rewritten w w' d Header (set_search (area_of w d Header) search)) }
 {
-    save(store, shape, Area::Header, header::FIRST, search.along);
-    save(store, shape, Area::Header, header::SECOND, search.left);
-    save(store, shape, Area::Header, header::THIRD, search.right);
-    save_wide(store, shape, Area::Header, header::LOW, search.low);
-    save_wide(store, shape, Area::Header, header::HIGH, search.high);
+    memory.save(Area::Header, header::FIRST, search.along);
+    memory.save(Area::Header, header::SECOND, search.left);
+    memory.save(Area::Header, header::THIRD, search.right);
+    memory.save_wide(Area::Header, header::LOW, search.low);
+    memory.save_wide(Area::Header, header::HIGH, search.high);
 }
 
-pub fn enter(store: &mut [u32], shape: Shape, phase: Phase)
-    ensures { ChangesBy store.old store.new (dims shape) (λ m. model_in m (phase_value phase)) }
+// The phase is written as it is read, by a number and the words that belong to it.
+pub fn enter(memory: &mut Memory<'_>, phase: Phase)
+    ensures { Writes memory.old memory.new (λ w w' d. ChangesBy w w' d (λ m. model_in m (phase_value phase))) }
 {
     match phase {
-        Phase::Filling => save(store, shape, Area::Header, header::PHASE, 0),
+        Phase::Filling => memory.save(Area::Header, header::PHASE, 0),
         Phase::AsksCell(edge, suffix) => {
-            save(store, shape, Area::Header, header::FIRST, edge.0);
-            save(store, shape, Area::Header, header::SECOND, suffix);
-            save(store, shape, Area::Header, header::PHASE, 1);
+            memory.save(Area::Header, header::FIRST, edge.0);
+            memory.save(Area::Header, header::SECOND, suffix);
+            memory.save(Area::Header, header::PHASE, 1);
         }
-        Phase::ShowsTable => save(store, shape, Area::Header, header::PHASE, 2),
+        Phase::ShowsTable => memory.save(Area::Header, header::PHASE, 2),
         Phase::Bisecting(search) => {
-            put_search(store, shape, search);
-            save(store, shape, Area::Header, header::PHASE, 3);
+            put_search(memory, search);
+            memory.save(Area::Header, header::PHASE, 3);
         }
         Phase::AsksMiddle(search) => {
-            put_search(store, shape, search);
-            save(store, shape, Area::Header, header::PHASE, 4);
+            put_search(memory, search);
+            memory.save(Area::Header, header::PHASE, 4);
         }
         Phase::Larger(edge) => {
-            save(store, shape, Area::Header, header::FIRST, edge.0);
-            save(store, shape, Area::Header, header::PHASE, 5);
+            memory.save(Area::Header, header::FIRST, edge.0);
+            memory.save(Area::Header, header::PHASE, 5);
         }
-        Phase::Broken => save(store, shape, Area::Header, header::PHASE, 6),
+        Phase::Broken => memory.save(Area::Header, header::PHASE, 6),
     }
 }

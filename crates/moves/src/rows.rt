@@ -1,82 +1,82 @@
 // The rows: one more from an edge, and each row's edge and access word.
 ghost use Rattle.std.specs.Prelude.{◌≡◌, ◌<◌, ◌≤◌, length};
-ghost use Rattle.areas.specs.Shapes.{dims};
+ghost use Rattle.areas.specs.Memories.{Reads, Writes};
 ghost use Rattle.model.specs.Observations.{rows as rows_in, edge_of as edge_in, access_word};
 ghost use Rattle.moves.specs.Additions.{RowAdded};
 ghost use Rattle.moves.specs.Spelling.{RowIn, AccessLetter, AccessWritten, EdgeWritten};
 ghost use Rattle.moves.specs.Observed.{observed_at};
 
+use crate::counters;
 use crate::numbers::{Edge, Row};
-use crate::{counters, header};
 use areas::area::Area;
-use areas::bulk::copy_in;
-use areas::places::{load, save};
-use areas::shape::Shape;
+use areas::memory::Memory;
+use store::header;
 
 // The edge that a row is, where there are so many.
-pub fn edge_of(store: &[u32], shape: Shape, row: Row) -> Edge
-    ensures { row.0 < rows_in (observed_at store.now (dims shape)) → result.0 ≡ edge_in (observed_at store.now (dims shape)) row.0 }
+pub fn edge_of(memory: &Memory<'_>, row: Row) -> Edge
+    ensures { Reads memory.now (λ w d. row.0 < rows_in (observed_at w d) → result.0 ≡ edge_in (observed_at w d) row.0) }
 {
-    Edge(load(store, shape, Area::Edges, row.0 as usize))
+    Edge(memory.load(Area::Edges, row.0 as usize))
 }
 
 // How many letters the access word of a row has.
-pub fn access_size(store: &[u32], shape: Shape, row: Row) -> u32
-    ensures { RowIn store.now (dims shape) row.0 → result ≡ length (access_word (observed_at store.now (dims shape)) row.0) }
+pub fn access_size(memory: &Memory<'_>, row: Row) -> u32
+    ensures { Reads memory.now (λ w d. RowIn w d row.0 → result ≡ length (access_word (observed_at w d) row.0)) }
 {
-    load(store, shape, Area::Sizes, row.0 as usize)
+    memory.load(Area::Sizes, row.0 as usize)
 }
 
 // Letter i of the access word of a row.
-pub fn access_letter(store: &[u32], shape: Shape, row: Row, i: u32) -> u32
-    ensures { AccessLetter store.now (dims shape) row.0 i result }
+pub fn access_letter(memory: &Memory<'_>, row: Row, i: u32) -> u32
+    ensures { Reads memory.now (λ w d. AccessLetter w d row.0 i result) }
 {
-    let start = row.0 as usize * shape.most() as usize;
-    load(store, shape, Area::Access, start + i as usize)
+    let start = row.0 as usize * memory.shape.most() as usize;
+    memory.load(Area::Access, start + i as usize)
 }
 
 // Writes the access word of a row to the front of out, as far as out goes, and answers how many letters those are.
-pub fn write_access(store: &[u32], shape: Shape, row: Row, out: &mut [u32]) -> usize
+pub fn write_access(memory: &Memory<'_>, row: Row, out: &mut [u32]) -> usize
     ensures within { result ≤ length out.new }
-    ensures written { AccessWritten store.now (dims shape) row.0 out.new result }
+    ensures written { Reads memory.now (λ w d. AccessWritten w d row.0 out.new result) }
 {
-    let size = access_size(store, shape, row);
+    let size = access_size(memory, row);
     let end = out.len().min(size as usize);
-    for i in 0..end {
-        out[i] = access_letter(store, shape, row, i as u32);
+    for (i, letter) in out[..end].iter_mut().enumerate() {
+        *letter = access_letter(memory, row, i as u32);
     }
     end
 }
 
 // Writes the word of an edge to the front of out, as far as out goes, and answers how many letters those are.
-pub fn write_edge(store: &[u32], shape: Shape, edge: Edge, out: &mut [u32]) -> usize
+pub fn write_edge(memory: &Memory<'_>, edge: Edge, out: &mut [u32]) -> usize
     ensures within { result ≤ length out.new }
-    ensures written { EdgeWritten store.now (dims shape) edge.0 out.new result }
+    ensures written { Reads memory.now (λ w d. EdgeWritten w d edge.0 out.new result) }
 {
     if edge.0 == 0 {
         return 0;
     }
     let number = edge.0 - 1;
-    let size = write_access(store, shape, Row(number / shape.keys()), out);
+    let size = write_access(memory, Row(number / memory.shape.keys()), out);
     if size == out.len() {
         return size;
     }
-    out[size] = number % shape.keys();
+    out[size] = number % memory.shape.keys();
     size + 1
 }
 
 // One row more, from an edge, where there is room.
-pub fn add_row(store: &mut [u32], shape: Shape, edge: Edge)
-    ensures { RowAdded store.old store.new (dims shape) edge.0 }
+pub fn add_row(memory: &mut Memory<'_>, edge: Edge)
+    ensures { Writes memory.old memory.new (λ w w' d. RowAdded w w' d edge.0) }
 {
-    let row = counters::rows(store, shape);
-    if row < shape.most() {
+    let row = counters::rows(memory);
+    if row < memory.shape.most() {
+        // Without a heap the word is spelt in an array for the longest that there can be.
         let mut word = [0; 1024];
-        let size = write_edge(store, shape, edge, &mut word);
-        let start = row as usize * shape.most() as usize;
-        copy_in(store, shape, Area::Access, start, &word[..size]);
-        save(store, shape, Area::Sizes, row as usize, size as u32);
-        save(store, shape, Area::Edges, row as usize, edge.0);
-        save(store, shape, Area::Header, header::ROWS, row + 1);
+        let size = write_edge(memory, edge, &mut word);
+        let start = row as usize * memory.shape.most() as usize;
+        memory.copy_in(Area::Access, start, &word[..size]);
+        memory.save(Area::Sizes, row as usize, size as u32);
+        memory.save(Area::Edges, row as usize, edge.0);
+        memory.save(Area::Header, header::ROWS, row + 1);
     }
 }

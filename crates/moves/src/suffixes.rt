@@ -1,30 +1,30 @@
 // The suffixes: one more, and each by its number.
 ghost use Rattle.std.specs.Prelude.{◌≡◌, ◌<◌, length};
-ghost use Rattle.areas.specs.Shapes.{dims};
+ghost use Rattle.areas.specs.Memories.{Reads, Writes};
 ghost use Rattle.model.specs.Pages.{suffix_span};
 ghost use Rattle.moves.specs.Additions.{span_value, SuffixAdded};
 ghost use Rattle.moves.specs.Observed.{page_at};
 
-use crate::{counters, header};
+use crate::counters;
 use areas::area::Area;
-use areas::places::save;
-use areas::shape::Shape;
-use areas::spans::{Span, save_span, span_at};
+use areas::memory::Memory;
+use areas::spans::Span;
+use store::header;
 
 // Suffix e, where there are so many.
-pub fn suffix(store: &[u32], shape: Shape, e: u32) -> Span
-    ensures { e < length (page_at store.now (dims shape)).suffixes → span_value result ≡ suffix_span (page_at store.now (dims shape)) e }
+pub fn suffix(memory: &Memory<'_>, e: u32) -> Span
+    ensures { Reads memory.now (λ w d. e < length (page_at w d).suffixes → span_value result ≡ suffix_span (page_at w d) e) }
 {
-    span_at(store, shape, e as usize)
+    memory.span_at(e as usize)
 }
 
 // One suffix more, where there is room.
-pub fn add_suffix(store: &mut [u32], shape: Shape, span: Span)
-    ensures { SuffixAdded store.old store.new (dims shape) span }
+pub fn add_suffix(memory: &mut Memory<'_>, span: Span)
+    ensures { Writes memory.old memory.new (λ w w' d. SuffixAdded w w' d span) }
 {
-    let count = counters::suffixes(store, shape);
-    if count < shape.most() {
-        save_span(store, shape, count as usize, span);
-        save(store, shape, Area::Header, header::SUFFIXES, count + 1);
+    let count = counters::suffixes(memory);
+    if count < memory.shape.most() {
+        memory.save_span(count as usize, span);
+        memory.save(Area::Header, header::SUFFIXES, count + 1);
     }
 }

@@ -1,5 +1,5 @@
 -- A refuting word and its answer are kept, and what follows.
-use Rattle.std.proofs.Common.{◌≡◌, ℕ, zero, suc, ◌+◌, ◌-◌, ◌^◌, ◌<◌, ◌≤◌, List, [], ◌∷◌, ◌++◌, length, get_or, Some, None, sym, refl, ap, ◌∙◌, subst, append-nil, arith}
+use Rattle.std.proofs.Common.{◌≡◌, ℕ, zero, suc, ◌+◌, ◌-◌, ◌^◌, ◌<◌, ◌≤◌, List, [], ◌∷◌, ◌++◌, length, get_or, Some, None, sym, refl, ap, ◌∙◌, subst, arith}
 use Rattle.std.proofs.lemmas.List.{get_or_push}
 use Rattle.areas.specs.declared.records.Record.{Record}
 use Rattle.areas.specs.declared.area.Area.TheVariants.{Header, Letters}
@@ -88,20 +88,20 @@ module _ (w w₁ w' : List ℕ) (d : Dims) (word : Word) (a : ℕ) (r : Refutabl
   refuted_table = record { shown = r.shows_word.shown; of_keys = r.shows_word.of_keys; wrong = r.wrong }
 
   -- A word that was never told of is searched along.
-  pub refuted_anew : (search : Search) → BeginsSearch w d word search → (AllNamed w d → AnswerTo (observations_of (page_of w d)) (word ++ []) None) → ChangesBy w₁ w' d (λ m. model_in m (bisecting (search_value search))) → Turned w w' d (refuted_by (view_model (model_of w d)) word a)
+  pub refuted_anew : (search : Search) → BeginsSearch w d word search → (AllNamed w d → AnswerTo (observations_of (page_of w d)) word None) → ChangesBy w₁ w' d (λ m. model_in m (bisecting (search_value search))) → Turned w w' d (refuted_by (view_model (model_of w d)) word a)
   unfolding model_of
   refuted_anew search begins found entered =
       let m = model_of w d in
-      let new : New (observed_in m) word = subst (New (observed_in m)) (append-nil word) (found (holds_named w d r.shows_word.holds)) in
+      let new : New (observed_in m) word = found (holds_named w d r.shows_word.holds) in
       let made = makes_by_then (λ z. model_in z (bisecting (search_value search))) kept (entered (kept.moves.long ∙ r.shows_word.holds.long)) in
       let is : model_in (kept_refutation m word a) (bisecting (search_value search)) ≡ model_refute m word a = ap (λ (z : Bisection). model_in (kept_refutation m word a) (bisecting z)) (begins a) in
       turned_by (subst (Makes w w' d) is made) (model_refutes_anew m word a r.shows_word.holds.valid refuted_table new)
 
   -- To a word that was told of before there are two answers.
-  pub refuted_told : (c : ℕ) → (AllNamed w d → AnswerTo (observations_of (page_of w d)) (word ++ []) (Some c)) → ChangesBy w₁ w' d (λ m. model_in m broken) → Turned w w' d (refuted_by (view_model (model_of w d)) word a)
+  pub refuted_told : (c : ℕ) → (AllNamed w d → AnswerTo (observations_of (page_of w d)) word (Some c)) → ChangesBy w₁ w' d (λ m. model_in m broken) → Turned w w' d (refuted_by (view_model (model_of w d)) word a)
   unfolding model_of
   refuted_told c found entered =
       let m = model_of w d in
       let answer = found (holds_named w d r.shows_word.holds) in
       let made = makes_by_then (λ z. model_in z broken) kept (entered (kept.moves.long ∙ r.shows_word.holds.long)) in
-      turned_by made (model_refutes_told m word a c r.shows_word.holds.valid refuted_table answer.0 (answer.1 ∙ append-nil word))
+      turned_by made (model_refutes_told m word a c r.shows_word.holds.valid refuted_table answer.0 answer.1)

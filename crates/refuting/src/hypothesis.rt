@@ -1,13 +1,13 @@
 // Where a word leads in the table that was shown, and what the table shows after it.
 ghost use Rattle.std.specs.Prelude.{◌≡◌};
-ghost use Rattle.areas.specs.Shapes.{dims};
+ghost use Rattle.areas.specs.Memories.{Reads};
 ghost use Rattle.machines.specs.Tables.{shows};
 ghost use Rattle.model.specs.Observations.{leads_to};
 ghost use Rattle.model.specs.Models.{view_model};
 ghost use Rattle.store.specs.Decoding.{model_of};
 ghost use Rattle.refuting.specs.Showing.{ShowsWord};
 
-use areas::shape::Shape;
+use areas::memory::Memory;
 use moves::cells::seen;
 use moves::numbers::Row;
 use moves::rows::edge_of;
@@ -15,24 +15,16 @@ use spelling::Spelling;
 use walks::lead;
 
 // The row to which a word leads from the first.
-pub fn row_after(store: &[u32], shape: Shape, word: &[u32]) -> Row
-    ensures { result.0 ≡ leads_to (dims shape).keys (model_of store.now (dims shape)).successors 0 word.now }
+pub fn row_after(memory: &Memory<'_>, word: &[u32]) -> Row
+    ensures { Reads memory.now (λ w d. result.0 ≡ leads_to d.keys (model_of w d).successors 0 word.now) }
 {
-    let whole = Spelling {
-        front: word,
-        key: 0,
-        rest: &[],
-    };
-    lead(store, shape, Row(0), whole, word.len())
+    lead(memory, Row(0), Spelling::from(word), word.len())
 }
 
 // What the table shows after a word of keys.
-pub fn shown_after(store: &[u32], shape: Shape, word: &[u32]) -> u32
-    ensures { ShowsWord store.now (dims shape) word.now → result ≡ shows (dims shape).keys (view_model (model_of store.now (dims shape))).hypothesis word.now }
+pub fn shown_after(memory: &Memory<'_>, word: &[u32]) -> u32
+    ensures { Reads memory.now (λ w d. ShowsWord w d word.now → result ≡ shows d.keys (view_model (model_of w d)).hypothesis word.now) }
 {
-    let row = row_after(store, shape, word);
-    match seen(store, shape, edge_of(store, shape, row), 0) {
-        Some(shown) => shown,
-        None => 0,
-    }
+    let row = row_after(memory, word);
+    seen(memory, edge_of(memory, row), 0).unwrap_or(0)
 }

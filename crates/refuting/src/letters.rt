@@ -6,10 +6,5 @@ ghost use Rattle.machines.specs.Words.{Keys};
 pub fn of_keys(word: &[u32], keys: u32) -> bool
     ensures { Decides result (Keys keys word.now) }
 {
-    for x in word {
-        if *x >= keys {
-            return false;
-        }
-    }
-    true
+    word.iter().all(|x| *x < keys)
 }

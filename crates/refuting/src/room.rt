@@ -1,24 +1,22 @@
 // Whether there is room for more letters.
 ghost use Rattle.std.specs.Prelude.{◌+◌, ◌<◌, ◌≤◌, length, MatchBool};
-ghost use Rattle.areas.specs.Shapes.{dims};
+ghost use Rattle.areas.specs.Memories.{Reads};
 ghost use Rattle.model.specs.States.{store_words};
 ghost use Rattle.moves.specs.Holding.{Holds};
 ghost use Rattle.moves.specs.Observed.{page_at};
 
-use areas::shape::Shape;
+use areas::memory::Memory;
 use moves::counters;
 
 // Whether the memory has as many words as a caller is asked for with so many letters more.
-pub fn has_room(store: &[u32], shape: Shape, more: usize) -> bool
-    ensures { Holds store.now (dims shape) → MatchBool result (store_words (dims shape).keys (dims shape).most (length (page_at store.now (dims shape)).log + more) ≤ length store.now) (length store.now < store_words (dims shape).keys (dims shape).most (length (page_at store.now (dims shape)).log + more)) }
+pub fn has_room(memory: &Memory<'_>, more: usize) -> bool
+    ensures { Reads memory.now (λ w d. Holds w d → MatchBool result (store_words d.keys d.most (length (page_at w d).log + more) ≤ length w) (length w < store_words d.keys d.most (length (page_at w d).log + more))) }
 {
-    let keys = shape.keys() as usize;
-    let most = shape.most() as usize;
-    let least = 4096 + 64 * ((keys + 1) * (most * (most + 2)));
-    if store.len() < least {
+    let least = memory.shape.counts().words_needed(0);
+    let Some(spare) = memory.words.len().checked_sub(least) else {
         return false;
-    }
-    let room = (store.len() - least) / 16;
-    let letters = counters::letters(store, shape);
+    };
+    let room = spare / 16;
+    let letters = counters::letters(memory);
     letters <= room && more <= room - letters
 }

@@ -1,5 +1,5 @@
 -- One step of a round after another.
-use mathlib.Core.Path.{ap, subst, sym}
+use mathlib.Core.Path.{◌≡◌, ap, subst, sym}
 use mathlib.Core.Bool.{Bool}
 use mathlib.Core.List.{List}
 use Prim.Native.Nat.{ℕ, ◌+◌, ◌<◌, ◌≤◌}
@@ -50,6 +50,11 @@ pub record SoFar (w w₁ : List ℕ) (d : Dims) (i : ℕ) : Type 0 where
   pub turned : Turned w w₁ d (view_model (model_of w d))
   pub going : Unsettled (model_of w₁ d).phase
   pub more : i < rows (observed_at w₁ d)
+
+-- So many rounds: each added a row to a learner that can go on, and any other is as it was.
+pub record TurnsMade (w w₁ : List ℕ) (d : Dims) (i : ℕ) : Type 0 where
+  pub moved : Holds w d → Unsettled (model_of w d).phase → SoFar w w₁ d i
+  pub kept : (Unsettled (model_of w d).phase → ⊥) → w₁ ≡ w
 
 pub none_so_far : (w : List ℕ) (d : Dims) → Holds w d → Unsettled (model_of w d).phase → SoFar w w d 0
 none_so_far w d h u = record { turned = turned_none h; going = u; more = h.valid.valid.formed.limits.rows_least }

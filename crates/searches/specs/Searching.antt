@@ -1,5 +1,5 @@
 -- A search by halves, step by step.
-use Rattle.std.specs.Prelude.{◌≡◌, ℕ, suc, ◌+◌, ◌<◌, ◌≤◌, List, Option}
+use Rattle.std.specs.Prelude.{◌≡◌, ℕ, suc, ◌+◌, ◌<◌, ◌≤◌, List, Option, Result, Ok, Err}
 use Rattle.areas.specs.Layout.{Dims}
 use Rattle.model.specs.Observations.{rows, count, mixed_at}
 use Rattle.model.specs.Learners.{middle, bisecting, AsksAlong}
@@ -12,8 +12,6 @@ use Rattle.moves.specs.Making.{MakesBy}
 use Rattle.moves.specs.Observed.{observed_at}
 use Rattle.moves.specs.Phases.{search_value}
 use Rattle.lookup.specs.Named.{AnswerTo}
-use Rattle.searches.specs.declared.narrowing.Narrowed.{Narrowed}
-use Rattle.searches.specs.declared.narrowing.Narrowed.TheVariants.{Found, Unknown}
 
 -- The answer to the middle's word and the left one are there, and the ends are in order.
 pub record Halving (w : List ℕ) (d : Dims) (s : Search) (told : ℕ) : Type 0 where
@@ -53,6 +51,6 @@ pub record Halted (w : List ℕ) (d : Dims) (s : Search) : Type 0 where
   pub asks : AsksAlong d.keys (observed_at w d) (model_of w d).successors (search_value s)
 
 -- What a search leads to with the answers that were told.
-abbrev pub NarrowsTo : List ℕ → Dims → Narrowed → Type 0
-NarrowsTo w d (Found s) = Ended w d s
-NarrowsTo w d (Unknown s) = Halted w d s
+abbrev pub NarrowsTo : List ℕ → Dims → Result Search Search → Type 0
+NarrowsTo w d (Ok s) = Ended w d s
+NarrowsTo w d (Err s) = Halted w d s

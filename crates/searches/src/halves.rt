@@ -1,6 +1,6 @@
 // Where a search begins, and its two halves.
 ghost use Rattle.std.specs.Prelude.{◌≡◌, ◌+◌, ◌-◌, ◌<◌, ◌≤◌};
-ghost use Rattle.areas.specs.Shapes.{dims};
+ghost use Rattle.areas.specs.Memories.{Reads};
 ghost use Rattle.model.specs.Observations.{count, Closed};
 ghost use Rattle.model.specs.Learners.{middle as middle_of};
 ghost use Rattle.model.specs.Moves.{first_bisection};
@@ -10,7 +10,7 @@ ghost use Rattle.moves.specs.Observed.{observed_at};
 ghost use Rattle.moves.specs.Phases.{search_value};
 ghost use Rattle.searches.specs.Searching.{Halves};
 
-use areas::shape::Shape;
+use areas::memory::Memory;
 use lookup::rest;
 use moves::answers::entry;
 use moves::cells::cell;
@@ -19,17 +19,17 @@ use moves::rows::edge_of;
 use walks::end_row;
 
 // The search along an answer that the hypothesis gets wrong begins at its two ends.
-pub fn start(store: &[u32], shape: Shape, along: u32) -> Search
-    ensures { Holds store.now (dims shape) → Closed (dims shape).keys (dims shape).most (observed_at store.now (dims shape)) (model_of store.now (dims shape)).successors → along < count (observed_at store.now (dims shape)) → search_value result ≡ first_bisection (dims shape).keys (dims shape).most (observed_at store.now (dims shape)) (model_of store.now (dims shape)).successors along }
+pub fn start(memory: &Memory<'_>, along: u32) -> Search
+    ensures { Reads memory.now (λ w d. Holds w d → Closed d.keys d.most (observed_at w d) (model_of w d).successors → along < count (observed_at w d) → search_value result ≡ first_bisection d.keys d.most (observed_at w d) (model_of w d).successors along) }
 {
-    let word = rest(store, shape, entry(store, shape, along));
-    let edge = edge_of(store, shape, end_row(store, shape, along));
+    let word = rest(memory, entry(memory, along));
+    let edge = edge_of(memory, end_row(memory, along));
     Search {
         along,
         low: 0,
         high: word.count(),
         left: along,
-        right: cell(store, shape, edge, 0).saturating_sub(1),
+        right: cell(memory, edge, 0).unwrap_or(0),
     }
 }
 
@@ -41,13 +41,13 @@ pub fn middle(search: Search) -> usize
 }
 
 // The half of a search in which the answers at its ends still differ, where this answer is to the middle's word.
-pub fn half(store: &[u32], shape: Shape, search: Search, told: u32) -> Search
-    ensures exact { Halves store.now (dims shape) search told result }
+pub fn half(memory: &Memory<'_>, search: Search, told: u32) -> Search
+    ensures exact { Reads memory.now (λ w d. Halves w d search told result) }
     ensures shorter { search.low + 1 < search.high → result.high - result.low < search.high - search.low }
 {
     let place = middle(search);
-    let shown = entry(store, shape, told).shown;
-    if shown == entry(store, shape, search.left).shown {
+    let shown = entry(memory, told).shown;
+    if shown == entry(memory, search.left).shown {
         Search {
             low: place,
             left: told,

@@ -7,7 +7,7 @@ mod splitting;
 mod turns;
 
 pub use halves::{half, middle, start};
-pub use narrowing::{Narrowed, narrow};
+pub use narrowing::narrow;
 pub use splitting::split;
 pub use turns::{bisect, hear_middle};
 

@@ -1,6 +1,6 @@
 // A search goes on as long as the words in its middle were told of.
 ghost use Rattle.std.specs.Prelude.{◌≡◌};
-ghost use Rattle.areas.specs.Shapes.{dims};
+ghost use Rattle.areas.specs.Memories.{Reads};
 ghost use Rattle.model.specs.Learners.{bisecting};
 ghost use Rattle.store.specs.Decoding.{model_of};
 ghost use Rattle.moves.specs.Holding.{Holds};
@@ -8,36 +8,29 @@ ghost use Rattle.moves.specs.Phases.{search_value};
 ghost use Rattle.searches.specs.Searching.{Between, NarrowsTo};
 
 use crate::halves::{half, middle};
-use areas::shape::Shape;
+use areas::memory::Memory;
 use lookup::{find, spell};
 use moves::phase::Search;
 use walks::mixed;
 
-#[derive(Clone, Copy)]
-pub enum Narrowed {
-    // No place is left between the ends.
-    Found(Search),
-    // The middle's word was never told of.
-    Unknown(Search),
-}
-
 // The number of the answer to the word in the middle.
-fn answer_between(store: &[u32], shape: Shape, search: Search) -> Option<u32>
-    ensures { Between store.now (dims shape) search result }
+fn answer_between(memory: &Memory<'_>, search: Search) -> Option<u32>
+    ensures { Reads memory.now (λ w d. Between w d search result) }
 {
-    let word = mixed(store, shape, search.along, middle(search), 0);
-    find(store, shape, spell(store, shape, word))
+    let word = mixed(memory, search.along, middle(search), 0);
+    find(memory, spell(memory, word))
 }
 
-// Halves a search while the middle's word was told of.
-pub fn narrow(store: &[u32], shape: Shape, mut search: Search) -> Narrowed
-    ensures { Holds store.now (dims shape) → (model_of store.now (dims shape)).phase ≡ bisecting (search_value search) → NarrowsTo store.now (dims shape) result }
+// Halves a search while the middle's word was told of: until no place is left between its ends, or, as an error, up to a middle whose word was never told of.
+pub fn narrow(memory: &Memory<'_>, mut search: Search) -> Result<Search, Search>
+    ensures { Reads memory.now (λ w d. Holds w d → (model_of w d).phase ≡ bisecting (search_value search) → NarrowsTo w d result) }
 {
+    // The middles are looked up among the answers, so there is no slice in which a library's search could find the place.
     while search.high.saturating_sub(search.low) > 1 {
-        let Some(told) = answer_between(store, shape, search) else {
-            return Narrowed::Unknown(search);
+        let Some(told) = answer_between(memory, search) else {
+            return Err(search);
         };
-        search = half(store, shape, search, told);
+        search = half(memory, search, told);
     }
-    Narrowed::Found(search)
+    Ok(search)
 }

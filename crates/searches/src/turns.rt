@@ -1,6 +1,6 @@
 // A search goes on: by the answers that were told, or by a new one.
 ghost use Rattle.std.specs.Prelude.{◌≡◌};
-ghost use Rattle.areas.specs.Shapes.{dims};
+ghost use Rattle.areas.specs.Memories.{Writes};
 ghost use Rattle.model.specs.Learners.{bisecting, asks_middle};
 ghost use Rattle.model.specs.Models.{model_hear_middle};
 ghost use Rattle.store.specs.Decoding.{model_of};
@@ -9,30 +9,30 @@ ghost use Rattle.moves.specs.Making.{MakesBy};
 ghost use Rattle.moves.specs.Phases.{search_value};
 
 use crate::halves::{half, middle};
-use crate::narrowing::{Narrowed, narrow};
+use crate::narrowing::narrow;
 use crate::splitting::{last_edge, split};
-use areas::shape::Shape;
+use areas::memory::Memory;
 use moves::answers::add_entry;
 use moves::counters;
 use moves::phase::{Phase, Search, enter};
 use walks::mixed;
 
 // Leads a search on as far as the answers go. True if it ends with a row more; false if its middle is to be asked about, or the box has more states than there may be.
-pub fn bisect(store: &mut [u32], shape: Shape, search: Search) -> bool
-    ensures { Holds store.old (dims shape) → (model_of store.old (dims shape)).phase ≡ bisecting (search_value search) → Rounded store.old store.new (dims shape) result }
+pub fn bisect(memory: &mut Memory<'_>, search: Search) -> bool
+    ensures { Writes memory.old memory.new (λ w w' d. Holds w d → (model_of w d).phase ≡ bisecting (search_value search) → Rounded w w' d result) }
 {
-    match narrow(store, shape, search) {
-        Narrowed::Unknown(place) => {
-            enter(store, shape, Phase::AsksMiddle(place));
+    match narrow(memory, search) {
+        Err(place) => {
+            enter(memory, Phase::AsksMiddle(place));
             false
         }
-        Narrowed::Found(place) => {
-            if counters::rows(store, shape) < shape.most() {
-                split(store, shape, place);
+        Ok(place) => {
+            if counters::rows(memory) < memory.shape.most() {
+                split(memory, place);
                 true
             } else {
-                let edge = last_edge(store, shape, place);
-                enter(store, shape, Phase::Larger(edge));
+                let edge = last_edge(memory, place);
+                enter(memory, Phase::Larger(edge));
                 false
             }
         }
@@ -40,14 +40,14 @@ pub fn bisect(store: &mut [u32], shape: Shape, search: Search) -> bool
 }
 
 // The answer to the middle's word is written down, and the search goes on in one half.
-pub fn hear_middle(store: &mut [u32], shape: Shape, search: Search, answer: u32)
-    ensures { Holds store.old (dims shape) → (model_of store.old (dims shape)).phase ≡ asks_middle (search_value search) → MakesBy store.old store.new (dims shape) (λ m. model_hear_middle m (search_value search) answer) }
+pub fn hear_middle(memory: &mut Memory<'_>, search: Search, answer: u32)
+    ensures { Writes memory.old memory.new (λ w w' d. Holds w d → (model_of w d).phase ≡ asks_middle (search_value search) → MakesBy w w' d (λ m. model_hear_middle m (search_value search) answer)) }
 {
-    let told = counters::answers(store, shape);
-    let word = mixed(store, shape, search.along, middle(search), answer);
-    add_entry(store, shape, word);
-    let times = counters::bisected(store, shape);
-    counters::set_bisected(store, shape, times.saturating_add(1));
-    let next = half(store, shape, search, told);
-    enter(store, shape, Phase::Bisecting(next));
+    let told = counters::answers(memory);
+    let word = mixed(memory, search.along, middle(search), answer);
+    add_entry(memory, word);
+    let times = counters::bisected(memory);
+    counters::set_bisected(memory, times.saturating_add(1));
+    let next = half(memory, search, told);
+    enter(memory, Phase::Bisecting(next));
 }

@@ -1,12 +1,16 @@
 -- The word that a spelling stands for.
-use Rattle.std.specs.Prelude.{◌≡◌, ℕ, ◌<◌, Bool, true, false, List, ◌++◌, length, take, drop}
+use Rattle.std.specs.Prelude.{◌≡◌, ℕ, ◌<◌, Bool, true, false, List, ◌∷◌, ◌++◌, Option, Some, None, length, take, drop}
 use Rattle.machines.specs.Words.{Word}
-use Rattle.model.specs.Pages.{keyed}
 use Rattle.spelling.specs.declared.Spelling.{Spelling}
+
+-- A word with a key before it, if there is one.
+abbrev pub key_first : Option ℕ → Word → Word
+key_first None w = w
+key_first (Some x) w = x ∷ w
 
 -- The letters of the front, the key if there is one, and the letters of the rest.
 abbrev pub spelt : Spelling → Word
-spelt s = s.front.now ++ keyed s.key s.rest.now
+spelt s = s.front.now ++ key_first s.key s.rest.now
 
 -- A word stands first in a list, and behind it all is as it was.
 pub record Written (w before after : List ℕ) : Type 0 where

@@ -2,27 +2,42 @@
 #![tactic(auto)]
 
 ghost use Rattle.std.specs.Prelude.{◌≡◌, ◌+◌, [], length, Decides, slice_index};
-ghost use Rattle.model.specs.Pages.{keyed};
-ghost use Rattle.spelling.specs.Spelt.{spelt, Puts};
+ghost use Rattle.spelling.specs.Spelt.{key_first, spelt, Puts};
 
-// The letters of a state's word, 0 or 1 and a key, and letters of a refuting word.
+// The letters of a state's word, perhaps a key, and letters of a refuting word.
 #[derive(Clone, Copy)]
 pub struct Spelling<'a> {
     pub front: &'a [u32],
-    pub key: u32,
+    pub key: Option<u32>,
     pub rest: &'a [u32],
+}
+
+// A word by itself.
+impl<'a> From<&'a [u32]> for Spelling<'a> {
+    ghost from_gives = { λ word r. spelt r ≡ word.now };
+
+    fn from(word: &'a [u32]) -> Spelling<'a> {
+        Spelling {
+            front: word,
+            key: None,
+            rest: &[],
+        }
+    }
+}
+
+// Letter i of a list of letters, 0 past its end.
+fn letter_of(letters: &[u32], i: usize) -> u32
+    ensures { result ≡ slice_index letters.now i }
+{
+    letters.get(i).copied().unwrap_or(0)
 }
 
 impl Spelling<'_> {
     // Where the letters of the rest begin.
     fn rest_at(&self) -> usize
-        ensures { result ≡ length self.now.front.now + length (keyed self.now.key []) }
+        ensures { result ≡ length self.now.front.now + length (key_first self.now.key []) }
     {
-        if self.key == 0 {
-            self.front.len()
-        } else {
-            self.front.len() + 1
-        }
+        self.front.len() + usize::from(self.key.is_some())
     }
 
     // How many letters the word has.
@@ -39,18 +54,15 @@ impl Spelling<'_> {
         if i < self.front.len() {
             return self.front[i];
         }
-        let at = self.rest_at();
-        if i < at {
-            return self.key - 1;
-        }
-        if i - at < self.rest.len() {
-            self.rest[i - at]
-        } else {
-            0
+        let behind = i - self.front.len();
+        match self.key {
+            None => letter_of(self.rest, behind),
+            Some(key) if behind == 0 => key,
+            Some(_) => letter_of(self.rest, behind - 1),
         }
     }
 
-    // Whether both stand for one word.
+    // Whether both stand for one word, whatever their parts: so no equality that could be derived.
     pub fn same(&self, other: &Spelling<'_>) -> bool
         ensures { Decides result (spelt self.now ≡ spelt other.now) }
     {
@@ -70,11 +82,7 @@ impl Spelling<'_> {
     pub fn is_word(&self, word: &[u32]) -> bool
         ensures { Decides result (spelt self.now ≡ word.now) }
     {
-        self.same(&Spelling {
-            front: word,
-            key: 0,
-            rest: &[],
-        })
+        self.same(&Spelling::from(word))
     }
 
     // Writes the word to the front of out, letter by letter, and answers true; if out is shorter it is left as it was.
@@ -85,8 +93,8 @@ impl Spelling<'_> {
         if count > out.len() {
             return false;
         }
-        for i in 0..count {
-            out[i] = self.letter(i);
+        for (i, letter) in out[..count].iter_mut().enumerate() {
+            *letter = self.letter(i);
         }
         true
     }

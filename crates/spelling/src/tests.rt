@@ -5,12 +5,12 @@ use crate::Spelling;
 fn spellings(rt: HostRuntime) {
     let one = Spelling {
         front: &[1, 0],
-        key: 3,
+        key: Some(2),
         rest: &[5],
     };
     let other = Spelling {
         front: &[1],
-        key: 1,
+        key: Some(0),
         rest: &[2, 5],
     };
     assert_eq!(rt; one.count(), 4);
@@ -25,7 +25,7 @@ fn spellings(rt: HostRuntime) {
 fn written(rt: HostRuntime) {
     let word = Spelling {
         front: &[1, 0],
-        key: 0,
+        key: None,
         rest: &[5],
     };
     let mut out = [9u32, 9, 9, 9];

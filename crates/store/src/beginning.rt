@@ -1,54 +1,41 @@
 // Begins a store.
-ghost use Rattle.std.specs.Prelude.{◌≡◌, ◌≤◌, length, MatchBool};
-ghost use Rattle.areas.specs.Shapes.{dims};
-ghost use Rattle.areas.specs.Layout.{sized};
-ghost use Rattle.model.specs.States.{store_words};
+ghost use Rattle.std.specs.Prelude.{◌≡◌, length, MatchBool};
+ghost use Rattle.areas.specs.Memories.{Writes};
 ghost use Rattle.promises.specs.Promises.{Unfit, BeganPost};
 ghost use Rattle.store.specs.Begun.{Fit, LaidOut};
 ghost use Rattle.store.specs.Reading.{state_of};
 
+use crate::header;
 use areas::area::Area;
-use areas::shape::Shape;
-use areas::{bulk, places};
+use areas::memory::Memory;
+use areas::shape::{Counts, Shape};
 use promises::Began;
 
 // Marks a memory as a store.
-const MARK: u32 = 1280263758;
-
-// How many words a store must have.
-pub(crate) fn words_needed(keys: u32, most: u32, room: u32) -> usize
-    requires keys { keys ≤ 64 }
-    requires most { most ≤ 1024 }
-    ensures { result ≡ store_words keys most room }
-{
-    let k = keys as usize;
-    let n = most as usize;
-    4096 + (16 * room as usize + 64 * ((k + 1) * (n * (n + 2))))
-}
+pub const STORE_MARK: u32 = 1280263758;
 
 // Whether keys and states are within the limits, and the memory is long enough.
 fn is_fit(keys: u32, most: u32, room: u32, store: &[u32]) -> bool
     ensures { MatchBool result (Fit keys most room store.now) (Unfit keys most room store.now) }
 {
-    if keys < 1 || keys > 64 {
+    let Some(counts) = Counts::new(keys, most) else {
         return false;
-    }
-    if most < 1 || most > 1024 {
-        return false;
-    }
-    store.len() >= words_needed(keys, most, room)
+    };
+    store.len() >= counts.words_needed(room)
 }
 
 // Lays the memory out with nothing told.
-fn lay_out(store: &mut [u32], shape: Shape)
-    ensures { length store.old ≡ (dims shape).length → LaidOut store.old store.new (dims shape) }
+fn lay_out(memory: &mut Memory<'_>)
+    ensures { Writes memory.old memory.new (λ w w' d. length w ≡ d.length → LaidOut w w' d) }
 {
-    bulk::clear_before(store, shape, Area::Answers);
-    places::save(store, shape, Area::Header, 0, MARK);
-    places::save(store, shape, Area::Header, 1, shape.keys());
-    places::save(store, shape, Area::Header, 2, shape.most());
-    places::save(store, shape, Area::Header, 3, 1);
-    places::save(store, shape, Area::Header, 4, 1);
+    let keys = memory.shape.keys();
+    let most = memory.shape.most();
+    memory.clear_before(Area::Answers);
+    memory.save(Area::Header, header::MARK, STORE_MARK);
+    memory.save(Area::Header, header::KEYS, keys);
+    memory.save(Area::Header, header::MOST, most);
+    memory.save(Area::Header, header::ROWS, 1);
+    memory.save(Area::Header, header::SUFFIXES, 1);
 }
 
 // Begins a store for so many keys and at most so many states, with room for so many letters of refuting words.
@@ -61,6 +48,10 @@ pub fn begin(keys: u32, most: u32, room: u32, store: &mut [u32]) -> Began
     let Some(shape) = Shape::new(keys, most, store.len()) else {
         return Began::Few;
     };
-    lay_out(store, shape);
+    let mut memory = Memory {
+        words: store,
+        shape,
+    };
+    lay_out(&mut memory);
     Began::Ready
 }

@@ -4,17 +4,16 @@
 ghost use Rattle.store.specs.Reading.{StoresStand};
 
 mod beginning;
+pub mod header;
 mod room;
 
-pub use beginning::begin;
+pub use beginning::{STORE_MARK, begin};
 pub use room::{most_states, room_in};
 
 // What holds of every state holds of whatever is taken for a store.
-pub fn stores_stand() -> u8
+pub fn stores_stand()
     ensures { StoresStand }
-{
-    0
-}
+{}
 
 #[cfg(test)]
 mod tests;

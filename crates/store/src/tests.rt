@@ -6,10 +6,7 @@ use std::test::Fail;
 // Whether a store of so many words can be begun.
 fn ready(rt: &HostRuntime, keys: u32, most: u32, room: u32, words: usize) -> Result<bool, Fail> {
     let mut store = vec![in rt.alloc(); 7u32; words]?;
-    match begin(keys, most, room, store.as_mut_slice()) {
-        Began::Ready => Ok(true),
-        Began::Few => Ok(false),
-    }
+    Ok(begin(keys, most, room, store.as_mut_slice()) == Began::Ready)
 }
 
 #[test]

@@ -1,6 +1,6 @@
 // Places along an answer's rest: the row to which the letters before lead, and the letters behind.
 ghost use Rattle.std.specs.Prelude.{◌≡◌, ◌^◌, ◌<◌};
-ghost use Rattle.areas.specs.Shapes.{dims};
+ghost use Rattle.areas.specs.Memories.{Reads};
 ghost use Rattle.model.specs.Observations.{count, row_along};
 ghost use Rattle.model.specs.Pages.{behind};
 ghost use Rattle.store.specs.Decoding.{entry_of, model_of};
@@ -10,20 +10,20 @@ ghost use Rattle.moves.specs.Observed.{observed_at};
 ghost use Rattle.walks.specs.Along.{Behind, Mixed};
 
 use crate::leads::lead;
+use areas::memory::Memory;
 use areas::records::Record;
-use areas::shape::Shape;
 use areas::spans::Span;
 use lookup::rest;
 use moves::answers::entry;
 use moves::numbers::Row;
 
 // The row to which the first letters of an answer's rest lead.
-pub fn row_along(store: &[u32], shape: Shape, along: u32, place: usize) -> Row
-    ensures { Holds store.now (dims shape) → along < count (observed_at store.now (dims shape)) → result.0 ≡ row_along (dims shape).keys (observed_at store.now (dims shape)) (model_of store.now (dims shape)).successors along place }
+pub fn row_along(memory: &Memory<'_>, along: u32, place: usize) -> Row
+    ensures { Reads memory.now (λ w d. Holds w d → along < count (observed_at w d) → result.0 ≡ row_along d.keys (observed_at w d) (model_of w d).successors along place) }
 {
-    let answer = entry(store, shape, along);
-    let word = rest(store, shape, answer);
-    lead(store, shape, Row(answer.row), word, place)
+    let answer = entry(memory, along);
+    let word = rest(memory, answer);
+    lead(memory, Row(answer.row), word, place)
 }
 
 // The part of the log behind a place in an answer's rest, in which the key comes first, if there is one.
@@ -42,18 +42,18 @@ fn cut(answer: Record, place: usize) -> Span
 }
 
 // The part of the log behind a place in the rest of an answer.
-pub fn span_behind(store: &[u32], shape: Shape, along: u32, place: usize) -> Span
-    ensures { Behind store.now (dims shape) along place result }
+pub fn span_behind(memory: &Memory<'_>, along: u32, place: usize) -> Span
+    ensures { Reads memory.now (λ w d. Behind w d along place result) }
 {
-    cut(entry(store, shape, along), place)
+    cut(entry(memory, along), place)
 }
 
 // The word along an answer at a place: the row's word to which the letters before lead, and the letters behind.
-pub fn mixed(store: &[u32], shape: Shape, along: u32, place: usize, shown: u32) -> Record
-    ensures { Mixed store.now (dims shape) along place shown result }
+pub fn mixed(memory: &Memory<'_>, along: u32, place: usize, shown: u32) -> Record
+    ensures { Reads memory.now (λ w d. Mixed w d along place shown result) }
 {
-    let row = row_along(store, shape, along, place);
-    let span = span_behind(store, shape, along, place);
+    let row = row_along(memory, along, place);
+    let span = span_behind(memory, along, place);
     Record {
         row: row.0,
         key: 0,

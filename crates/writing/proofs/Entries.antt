@@ -33,12 +33,12 @@ place_read w d p h =
     )
 
 -- One entry more, where k is the number of keys.
-pub entry_more : (w : List ℕ) (d : Dims) (k : ℕ) (o out : List ℕ) (p x : ℕ) → k ≡ d.keys → p < rows (observed_at w d) * (k + 1) → p < length o → (p / (k + 1) < rows (observed_at w d) → x ≡ table_entry d.keys d.most (observed_at w d) (model_of w d).successors (p / (k + 1)) (p % (k + 1))) → out ≡ take p (table_read w d) ++ drop p o → set out p x ≡ take (p + 1) (table_read w d) ++ drop (p + 1) o
-entry_more w d k o out p x q h l e before =
+pub entry_more : (w : List ℕ) (d : Dims) (k : ℕ) (part : List ℕ) (p x : ℕ) → k ≡ d.keys → p < rows (observed_at w d) * (k + 1) → p < length part → (p / (k + 1) < rows (observed_at w d) → x ≡ table_entry d.keys d.most (observed_at w d) (model_of w d).successors (p / (k + 1)) (p % (k + 1))) → take p part ≡ take p (table_read w d) → take (p + 1) (set part p x) ≡ take (p + 1) (table_read w d)
+entry_more w d k part p x q h l e before =
     let h' : p < rows (observed_at w d) * (d.keys + 1) = subst (λ (z : ℕ). p < rows (observed_at w d) * (z + 1)) q h in
     let e' = subst (λ (z : ℕ). (p / (z + 1) < rows (observed_at w d) → x ≡ table_entry d.keys d.most (observed_at w d) (model_of w d).successors (p / (z + 1)) (p % (z + 1)))) q e in
     let place = place_read w d p h' in
-    write_more (table_read w d) o out p x (omega (arith, h', length-table d.keys d.most (observed_at w d) (model_of w d).successors)) l (e' place.0 ∙ place.1) before
+    write_more (table_read w d) part p x (omega (arith, h', length-table d.keys d.most (observed_at w d) (model_of w d).successors)) l (e' place.0 ∙ place.1) before
 
 -- As many entries as are counted.
 pub entries_counted : (w : List ℕ) (d : Dims) (k r count most : ℕ) → Holds w d → k ≡ d.keys → r ≡ min count most → count ≡ rows (observed_at w d) → most ≡ d.most → (r ≡ rows (observed_at w d)) × (r * (k + 1) ≡ rows (observed_at w d) * (d.keys + 1))
@@ -47,11 +47,11 @@ entries_counted w d k r count most h e f g m =
     (all, λ i. all i * (e i + 1))
 
 -- The whole table.
-pub table_laid : (w : List ℕ) (d : Dims) (o o' : List ℕ) (p : ℕ) → p ≡ rows (observed_at w d) * (d.keys + 1) → o' ≡ take p (table_read w d) ++ drop p o → TableLaid w d o o'
-table_laid w d o o' p e all =
+pub table_laid : (w : List ℕ) (d : Dims) (o part : List ℕ) (p n : ℕ) → n ≡ rows (observed_at w d) * (d.keys + 1) → p ≡ n → length part ≡ n → take p part ≡ take p (table_read w d) → TableLaid w d o (part ++ drop n o)
+table_laid w d o part p n e ep el all =
     let long = length-table d.keys d.most (observed_at w d) (model_of w d).successors in
-    let written = write_all (table_read w d) o o' p (e ∙ sym long) all in
+    let written = write_all (table_read w d) o part p n (e ∙ sym long) (ep ∙ e ∙ sym long) (el ∙ e ∙ sym long) all in
     record {
-      front = subst (λ (z : ℕ). take z o' ≡ table_read w d) long written.first;
-      behind = subst (λ (z : ℕ). drop z o' ≡ drop z o) long written.behind;
+      front = subst (λ (z : ℕ). take z (part ++ drop n o) ≡ table_read w d) long written.first;
+      behind = subst (λ (z : ℕ). drop z (part ++ drop n o) ≡ drop z o) long written.behind;
     }

@@ -1,57 +1,25 @@
 // Where each area of a shape begins, and how long it is.
-ghost use Rattle.std.specs.Prelude.{◌≡◌, ◌≤◌};
-ghost use Rattle.areas.specs.Layout.{sized, edge_count, cell_count, answer_count, base_of, size_of};
+ghost use Rattle.std.specs.Prelude.{◌≡◌, ◌+◌, ◌^◌, ◌<◌, ◌≤◌};
+ghost use Rattle.areas.specs.Layout.{sized, answer_count, base_of, size_of};
 ghost use Rattle.areas.specs.Room.{LayoutFits};
 ghost use Rattle.areas.specs.Shapes.{dims, Shaped};
 
-use super::Shape;
+use super::{Counts, Shape};
 use crate::area::Area;
 
 const HEADER: usize = 64;
 
-// How many edges there can be: the empty word, and each row's word with each key.
-fn edge_count(keys: u32, most: u32) -> usize
-    requires keys { keys ≤ 64 }
-    requires most { most ≤ 1024 }
-    ensures exact { result ≡ edge_count keys most }
-    ensures few { result ≤ 65537 }
-{
-    1 + most as usize * keys as usize
-}
-
-// A cell for each edge and suffix.
-fn cell_count(keys: u32, most: u32) -> usize
-    requires keys { keys ≤ 64 }
-    requires most { most ≤ 1024 }
-    ensures exact { result ≡ cell_count keys most }
-    ensures few { result ≤ 67109888 }
-{
-    edge_count(keys, most) * most as usize
-}
-
-// One answer for each cell, and 65 for each state: a refutation, and at most 64 halvings of its word.
-fn answer_count(keys: u32, most: u32) -> usize
-    requires keys { keys ≤ 64 }
-    requires most { most ≤ 1024 }
-    ensures exact { result ≡ answer_count keys most }
-    ensures few { result ≤ 67176448 }
-{
-    cell_count(keys, most) + 65 * most as usize
-}
-
 // Where an area begins.
-fn start(keys: u32, most: u32, area: Area) -> usize
-    requires keys { keys ≤ 64 }
-    requires most { most ≤ 1024 }
-    ensures { result ≡ base_of (sized keys most 0) area }
+fn start(counts: Counts, area: Area) -> usize
+    ensures { result ≡ base_of (sized counts.keys counts.most 0) area }
 {
-    let n = most as usize;
+    let n = counts.most as usize;
     let access = HEADER + n;
     let sizes = access + n * n;
     let suffixes = sizes + n;
     let cells = suffixes + 4 * n;
-    let successors = cells + cell_count(keys, most);
-    let answers = successors + edge_count(keys, most);
+    let successors = cells + counts.cell_count();
+    let answers = successors + counts.edge_count();
     match area {
         Area::Header => 0,
         Area::Edges => HEADER,
@@ -61,51 +29,48 @@ fn start(keys: u32, most: u32, area: Area) -> usize
         Area::Cells => cells,
         Area::Successors => successors,
         Area::Answers => answers,
-        Area::Letters => answers + 8 * answer_count(keys, most),
+        Area::Letters => answers + 8 * counts.answer_count(),
     }
 }
 
 // The areas fit the memory that a caller is asked for.
-pub fn layout_fits() -> u8
+pub fn layout_fits()
     ensures { LayoutFits }
-{
-    0
-}
+{}
 
 impl Shape {
     // The shape of a memory of this length, unless a number is 0 or too large or the memory too short.
     pub fn new(keys: u32, most: u32, length: usize) -> Option<Shape>
         ensures { Shaped (sized keys most length) result }
     {
-        if keys == 0 || keys > 64 || most == 0 || most > 1024 {
+        let counts = Counts::new(keys, most)?;
+        if start(counts, Area::Letters) > length {
             return None;
         }
-        if start(keys, most, Area::Letters) > length {
-            return None;
-        }
-        Some(Shape { keys, most, length })
+        Some(Shape { counts, length })
     }
 
     // Where the area begins.
     pub fn base(self, area: Area) -> usize
-        ensures { result ≡ base_of (dims self) area }
+        ensures exact { result ≡ base_of (dims self) area }
+        ensures within { base_of (dims self) area + size_of (dims self) area < 2 ^ 64 }
     {
-        start(self.keys, self.most, area)
+        start(self.counts, area)
     }
 
     // How many words the area has.
     pub fn size(self, area: Area) -> usize
         ensures { result ≡ size_of (dims self) area }
     {
-        let n = self.most as usize;
+        let n = self.counts.most as usize;
         match area {
             Area::Header => HEADER,
             Area::Edges | Area::Sizes => n,
             Area::Access => n * n,
             Area::Suffixes => 4 * n,
-            Area::Cells => cell_count(self.keys, self.most),
-            Area::Successors => edge_count(self.keys, self.most),
-            Area::Answers => 8 * answer_count(self.keys, self.most),
+            Area::Cells => self.counts.cell_count(),
+            Area::Successors => self.counts.edge_count(),
+            Area::Answers => 8 * self.counts.answer_count(),
             Area::Letters => self.length - self.base(Area::Letters),
         }
     }
@@ -115,6 +80,6 @@ impl Shape {
         ensures exact { result ≡ answer_count (dims self).keys (dims self).most }
         ensures few { result ≤ 67176448 }
     {
-        answer_count(self.keys, self.most)
+        self.counts.answer_count()
     }
 }

@@ -8,14 +8,14 @@ impl Shape {
     pub fn keys(self) -> u32
         ensures { result ≡ (dims self).keys }
     {
-        self.keys
+        self.counts.keys
     }
 
     // How many states there can be.
     pub fn most(self) -> u32
         ensures { result ≡ (dims self).most }
     {
-        self.most
+        self.counts.most
     }
 
     // How many words the memory has.

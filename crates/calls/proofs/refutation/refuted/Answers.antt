@@ -1,7 +1,11 @@
 -- Each refusal, and what is taken.
-use Rattle.std.proofs.Common.{ℕ, sym, subst}
+use Rattle.std.proofs.Common.{ℕ, length, sym, subst, rules}
 use Rattle.std.proofs.lemmas.Bool.Decides.{not_from_Decides}
 use Rattle.machines.specs.Words.{Keys}
+use Rattle.areas.proofs.Memories.{lent_back}
+use Rattle.promises.specs.declared.Given.TheVariants.{Taken}
+use Rattle.promises.specs.Promises.{RefutedSays}
+use Rattle.store.specs.Reading.{state_of}
 use Rattle.calls.proofs.Refusals.{refuted_unstored, refuted_unasked, refuted_keys, refuted_same, refuted_full, refuted_taken}
 use Rattle.calls.proofs.refutation.refuted.Goals as goal
 
@@ -31,6 +35,7 @@ returns-then-not-has_room c =
 
 pub returns : goal.returns
 returns c =
-    refuted_taken c.args.store.now c.args.word.now c.args.answer c.in-Some.shape c.in-Some.ensures c.phase_of.result c.phase_of.ensures c.in-ShowsTable.is
+    lent_back (λ w. RefutedSays state_of (state_of c.args.store.now) (length c.args.store.now) c.args.word.now c.args.answer c.args.store.now w Taken) c.refute.new.memory.words.now (search rules)
+    (refuted_taken c.args.store.now c.args.word.now c.args.answer c.in-Some.shape c.in-Some.ensures c.phase_of.result c.phase_of.ensures c.in-ShowsTable.is
     (subst (λ (z : ℕ). Keys z c.args.word.now) c.keys.ensures (c.of_keys.ensures.0 c.if-not-of_keys.false))
-    c.shown_after.result c.shown_after.ensures c.if-shown_after-answer.false c.refute.new.store c.if-not-has_room.ensures c.refute.ensures
+    c.shown_after.result c.shown_after.ensures c.if-shown_after-answer.false c.refute.new.memory.words.now c.if-not-has_room.ensures c.refute.ensures.words)

@@ -8,7 +8,7 @@ use Rattle.closing.proofs.gaps.first_gap.Given as goal
 
 abbrev pub invariant-loop-suffix : goal.invariant-loop-suffix
 invariant-loop-suffix l =
-    KnownBefore l.store (dims l.shape) l.u × ((e : ℕ) → e < l.suffix → 0 < seen (dims l.shape).most (observed_at l.store (dims l.shape)) l.u e)
+    KnownBefore l.memory.words.now (dims l.memory.shape) l.u × ((e : ℕ) → e < l.suffix → 0 < seen (dims l.memory.shape).most (observed_at l.memory.words.now (dims l.memory.shape)) l.u e)
 
 abbrev pub invariant-loop-u : goal.invariant-loop-u
-invariant-loop-u l = KnownBefore l.store (dims l.shape) l.u
+invariant-loop-u l = KnownBefore l.memory.words.now (dims l.memory.shape) l.u

@@ -8,5 +8,5 @@ use Rattle.closing.proofs.likeness.differ.Given as goal
 
 abbrev pub invariant-loop-suffix : goal.invariant-loop-suffix
 invariant-loop-suffix l =
-    CellsNamed l.store (dims l.shape)
-    → (e : ℕ) → e < l.suffix → seen (dims l.shape).most (observed_at l.store (dims l.shape)) l.left.0 e ≡ seen (dims l.shape).most (observed_at l.store (dims l.shape)) l.right.0 e
+    CellsNamed l.memory.words.now (dims l.memory.shape)
+    → (e : ℕ) → e < l.suffix → seen (dims l.memory.shape).most (observed_at l.memory.words.now (dims l.memory.shape)) l.left.0 e ≡ seen (dims l.memory.shape).most (observed_at l.memory.words.now (dims l.memory.shape)) l.right.0 e

@@ -8,5 +8,5 @@ use Rattle.closing.proofs.likeness.row_like.Given as goal
 
 abbrev pub invariant-loop-j : goal.invariant-loop-j
 invariant-loop-j l =
-    CellsNamed l.store (dims l.shape)
-    → (j : ℕ) → j < l.j → (e : ℕ) × DifferAt l.store (dims l.shape) l.edge.0 (edge_of (observed_at l.store (dims l.shape)) j) e
+    CellsNamed l.memory.words.now (dims l.memory.shape)
+    → (j : ℕ) → j < l.j → (e : ℕ) × DifferAt l.memory.words.now (dims l.memory.shape) l.edge.0 (edge_of (observed_at l.memory.words.now (dims l.memory.shape)) j) e

@@ -1,6 +1,6 @@
 -- All cells of earlier edges are known.
 use Rattle.std.proofs.Common.{ℕ, ◌<◌}
-use Rattle.areas.specs.Shapes.{dims}
+use Rattle.areas.specs.Memories.{Writes}
 use Rattle.model.specs.Observations.{suffixes_used, seen}
 use Rattle.moves.specs.Observed.{observed_at}
 use Rattle.filling.specs.Filled.{Filling, FillsCells}
@@ -8,6 +8,5 @@ use Rattle.filling.proofs.table.fill.Given as goal
 
 abbrev pub invariant-loop-u : goal.invariant-loop-u
 invariant-loop-u l =
-    Filling l.initial.store (dims l.shape)
-    → FillsCells l.initial.store l.store (dims l.shape)
-    × ((v e : ℕ) → v < l.u → e < suffixes_used (observed_at l.initial.store (dims l.shape)) → 0 < seen (dims l.shape).most (observed_at l.store (dims l.shape)) v e)
+    Writes l.initial.memory l.memory (λ w w' d. Filling w d
+    → FillsCells w w' d × ((v e : ℕ) → v < l.u → e < suffixes_used (observed_at w d) → 0 < seen d.most (observed_at w' d) v e))

@@ -1,6 +1,6 @@
 -- The cells of all earlier suffixes are known.
 use Rattle.std.proofs.Common.{ℕ, ◌<◌}
-use Rattle.areas.specs.Shapes.{dims}
+use Rattle.areas.specs.Memories.{Writes}
 use Rattle.model.specs.Observations.{edges_used, seen}
 use Rattle.moves.specs.Observed.{observed_at}
 use Rattle.filling.specs.Filled.{Filling, FillsCells}
@@ -8,7 +8,5 @@ use Rattle.filling.proofs.table.fill_edge.Given as goal
 
 abbrev pub invariant-loop-suffix : goal.invariant-loop-suffix
 invariant-loop-suffix l =
-    Filling l.initial.store (dims l.shape)
-    → l.edge.0 < edges_used (dims l.shape).keys (observed_at l.initial.store (dims l.shape))
-    → FillsCells l.initial.store l.store (dims l.shape)
-    × ((e : ℕ) → e < l.suffix → 0 < seen (dims l.shape).most (observed_at l.store (dims l.shape)) l.edge.0 e)
+    Writes l.initial.memory l.memory (λ w w' d. Filling w d → l.edge.0 < edges_used d.keys (observed_at w d)
+    → FillsCells w w' d × ((e : ℕ) → e < l.suffix → 0 < seen d.most (observed_at w' d) l.edge.0 e))

@@ -10,5 +10,5 @@ use Rattle.lookup.proofs.search.find.Given as goal
 
 abbrev pub invariant-loop-c : goal.invariant-loop-c
 invariant-loop-c l =
-    AllNamed l.store (dims l.shape)
-    → (c : ℕ) → c < l.c → word_at (observations_of (page_of l.store (dims l.shape))) c ≡ spelt l.word → ⊥
+    AllNamed l.memory.words.now (dims l.memory.shape)
+    → (c : ℕ) → c < l.c → word_at (observations_of (page_of l.memory.words.now (dims l.memory.shape))) c ≡ spelt l.word → ⊥

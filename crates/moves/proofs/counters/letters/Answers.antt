@@ -7,5 +7,5 @@ use Rattle.moves.proofs.counters.letters.Goals as goal
 pub returns : goal.returns
 returns c = record {
   word = c.load_wide.ensures;
-  count = λ e f. c.load_wide.ensures ∙ sym (letters_read c.args.store.now (dims c.args.shape) (limits_of c.args.shape) e f);
+  count = λ e f. c.load_wide.ensures ∙ sym (letters_read c.args.memory.now.words.now (dims c.args.memory.now.shape) (limits_of c.args.memory.now.shape) e f);
 }

@@ -8,4 +8,4 @@ use Rattle.moves.proofs.rows.write_access.Given as goal
 
 abbrev pub invariant-loop-i : goal.invariant-loop-i
 invariant-loop-i l =
-    RowIn l.store (dims l.shape) l.row.0 → take l.i l.out ≡ take l.i (access_word (observed_in (model_of l.store (dims l.shape))) l.row.0)
+    RowIn l.memory.words.now (dims l.memory.shape) l.row.0 → take l.i l.letter-items ≡ take l.i (access_word (observed_in (model_of l.memory.words.now (dims l.memory.shape))) l.row.0)

@@ -1,15 +1,10 @@
--- The letters are gone through one by one.
-use Rattle.std.proofs.Common.{sym, refl, subst, true≢false, arith}
-use Rattle.std.proofs.lemmas.List.{take_all}
-use Rattle.machines.specs.Words.{Keys}
-use Rattle.refuting.proofs.Spelled.{keys_more, keys_at}
+-- Each letter is looked at.
+use Rattle.std.proofs.Common.{◌<◌, ◌≤◌, rules, tests}
+use Rattle.std.proofs.lemmas.Iterator.{cases_from_all, YieldsList-from_slice}
+use Rattle.refuting.proofs.Spelled.{keys_from_cases}
 use Rattle.refuting.proofs.letters.of_keys.Goals as goal
 
-pub returns-then-x-keys : goal.returns-then-x-keys
-returns-then-x-keys c = (λ e. absurd (true≢false (sym e)), λ keys. absurd (omega (arith, keys_at c.args.keys c.args.word.now c.loop-x.x-index c.loop-x-test.true keys, c.if-x-keys.true)))
-
-pub loop-x-preserved : goal.loop-x-preserved
-loop-x-preserved c = keys_more c.args.keys c.args.word.now c.loop-x.x-index c.loop-x-test.true c.loop-x.invariant c.if-x-keys.false
-
 pub returns : goal.returns
-returns c = (λ e. subst (Keys c.args.keys) (take_all c.loop-x.x-index c.args.word.now c.loop-x-test.false) c.loop-x.invariant, λ keys. refl)
+returns c =
+    keys_from_cases c.all.result c.args.keys c.args.word.now
+    (cases_from_all _ _ _ (λ x. x < c.args.keys) (λ x. c.args.keys ≤ x) c.all.ensures.ran (YieldsList-from_slice c.args.word.now cc) (λ x q k. search (rules, tests)) (λ x q k. search (rules, tests)))

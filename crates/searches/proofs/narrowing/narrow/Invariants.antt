@@ -8,10 +8,10 @@ use Rattle.moves.specs.Phases.{search_value}
 use Rattle.searches.specs.Searching.{Searching}
 use Rattle.searches.proofs.narrowing.narrow.Given as goal
 
-abbrev pub invariant-loop-shape : goal.invariant-loop-shape
-invariant-loop-shape l =
-    Holds l.store (dims l.shape) → (model_of l.store (dims l.shape)).phase ≡ bisecting (search_value l.initial.search)
-    → Searching l.store (dims l.shape) l.search
+abbrev pub invariant-loop-told : goal.invariant-loop-told
+invariant-loop-told l =
+    Holds l.memory.words.now (dims l.memory.shape) → (model_of l.memory.words.now (dims l.memory.shape)).phase ≡ bisecting (search_value l.initial.search)
+    → Searching l.memory.words.now (dims l.memory.shape) l.search
 
-abbrev pub decreases-loop-shape : goal.decreases-loop-shape
-decreases-loop-shape l = l.search.high - l.search.low
+abbrev pub decreases-loop-told : goal.decreases-loop-told
+decreases-loop-told l = l.search.high - l.search.low

@@ -7,4 +7,4 @@ use Rattle.searches.proofs.splitting.last_edge.Goals as goal
 
 pub returns : goal.returns
 returns c h =
-    last_read c.args.store.now (dims c.args.shape) c.args.search c.row_along-row.result.0 c.letter.result _ c.entry.result (spelt c.rest-word.result) h (c.row_along-row.ensures h.held (searched c.args.store.now (dims c.args.shape) c.args.search h).along_in) (record { answer = c.entry.ensures; letters = c.rest-word.ensures }) c.letter.ensures c.edge_behind.ensures
+    last_read c.args.memory.now.words.now (dims c.args.memory.now.shape) c.args.search c.row_along-row.result.0 c.letter.result _ c.entry.result (spelt c.rest-word.result) h (c.row_along-row.ensures h.held (searched c.args.memory.now.words.now (dims c.args.memory.now.shape) c.args.search h).along_in) (record { answer = c.entry.ensures; letters = c.rest-word.ensures }) c.letter.ensures c.edge_behind.ensures

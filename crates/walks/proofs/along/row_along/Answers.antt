@@ -6,4 +6,4 @@ use Rattle.walks.proofs.along.row_along.Goals as goal
 
 pub returns : goal.returns
 returns c held inside =
-    along_at c.args.store.now (dims c.args.shape) c.args.along c.entry-answer.result (spelt c.rest-word.result) _ c.args.place held inside (record { answer = c.entry-answer.ensures; letters = c.rest-word.ensures }) c.lead.ensures
+    along_at c.args.memory.now.words.now (dims c.args.memory.now.shape) c.args.along c.entry-answer.result (spelt c.rest-word.result) _ c.args.place held inside (record { answer = c.entry-answer.ensures; letters = c.rest-word.ensures }) c.lead.ensures

@@ -6,4 +6,4 @@ use Rattle.walks.proofs.ends.end_row.Goals as goal
 
 pub returns : goal.returns
 returns c held inside =
-    ends_at c.args.store.now (dims c.args.shape) c.args.c c.entry-answer.result (spelt c.rest-word.result) _ c.count.result held inside (record { answer = c.entry-answer.ensures; letters = c.rest-word.ensures }) c.count.ensures c.lead.ensures
+    ends_at c.args.memory.now.words.now (dims c.args.memory.now.shape) c.args.c c.entry-answer.result (spelt c.rest-word.result) _ c.count.result held inside (record { answer = c.entry-answer.ensures; letters = c.rest-word.ensures }) c.count.ensures c.lead.ensures

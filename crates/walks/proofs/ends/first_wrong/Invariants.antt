@@ -10,5 +10,5 @@ use Rattle.walks.proofs.ends.first_wrong.Given as goal
 
 abbrev pub invariant-loop-c : goal.invariant-loop-c
 invariant-loop-c l =
-    Holds l.store (dims l.shape) → Closed (dims l.shape).keys (dims l.shape).most (observed_at l.store (dims l.shape)) (model_of l.store (dims l.shape)).successors
-    → (c : ℕ) → c < l.c → RightAt l.store (dims l.shape) c
+    Holds l.memory.words.now (dims l.memory.shape) → Closed (dims l.memory.shape).keys (dims l.memory.shape).most (observed_at l.memory.words.now (dims l.memory.shape)) (model_of l.memory.words.now (dims l.memory.shape)).successors
+    → (c : ℕ) → c < l.c → RightAt l.memory.words.now (dims l.memory.shape) c

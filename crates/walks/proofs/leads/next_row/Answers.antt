@@ -7,5 +7,5 @@ use Rattle.walks.proofs.leads.next_row.Goals as goal
 
 pub returns : goal.returns
 returns c =
-    c.load.ensures ∙ ap (λ (l : List ℕ). get_or l (1 + (c.args.row.0 * c.keys.result + c.args.key.0)) 0) (sym (successors_read c.args.store.now (dims c.args.shape)))
-    ∙ ap (λ (z : ℕ). get_or (model_of c.args.store.now (dims c.args.shape)).successors z 0) (ap (λ (z : ℕ). 1 + (c.args.row.0 * z + c.args.key.0)) c.keys.ensures ∙ omega arith)
+    c.load.ensures ∙ ap (λ (l : List ℕ). get_or l (1 + (c.args.row.0 * c.keys.result + c.args.key.0)) 0) (sym (successors_read c.args.memory.now.words.now (dims c.args.memory.now.shape)))
+    ∙ ap (λ (z : ℕ). get_or (model_of c.args.memory.now.words.now (dims c.args.memory.now.shape)).successors z 0) (ap (λ (z : ℕ). 1 + (c.args.row.0 * z + c.args.key.0)) c.keys.ensures ∙ omega arith)

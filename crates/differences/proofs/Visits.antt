@@ -12,12 +12,12 @@ pub linked_begin : Linked (begin_visit ∷ []) ([] ∷ [])
 linked_begin = record {
   long = refl;
   some = omega arith;
-  spelt = each_pushed begin_visit (λ p v. Spelt ([] ∷ []) p v.step) [] begin_visit (λ p h. absurd (omega (arith, h))) refl;
+  spelt = each_pushed begin_visit (λ p v. Spelt ([] ∷ []) p v.step) [] begin_visit (λ p h. absurd (omega (arith, h))) (refl, refl);
 }
 
 -- The first word is empty.
 first_spelt : (ws : List Word) (o : Option Step) → Spelt ws 0 o → word_at ws 0 ≡ []
-first_spelt ws None e = e
+first_spelt ws None e = e.1
 first_spelt ws (Some step) e = absurd (omega (arith, e.0))
 
 pub linked_empty : {visits : List Visit} {ws : List Word} → Linked visits ws → word_at ws 0 ≡ []
@@ -25,7 +25,7 @@ linked_empty {visits = visits} {ws = ws} d = first_spelt ws (visit_at visits 0).
 
 -- A word is spelt as before where one more stands behind.
 spelt_longer : (ws : List Word) (w : Word) (p : ℕ) (o : Option Step) → p < length ws → Spelt ws p o → Spelt (ws ++ (w ∷ [])) p o
-spelt_longer ws w p None h e = word_old ws w p h ∙ e
+spelt_longer ws w p None h e = (e.0, word_old ws w p h ∙ e.1)
 spelt_longer ws w p (Some step) h e = (e.0, word_old ws w p h ∙ (e.1 ∙ ap (λ (z : Word). z ++ (step.key ∷ [])) (sym (word_old ws w step.from (omega (arith, h, e.0))))))
 
 pub paired_begin : (k : ℕ) (a b : List ℕ) → Paired k a b (begin_visit ∷ []) ([] ∷ [])
@@ -76,4 +76,4 @@ read_back {ws = ws} p step rest is l d =
 pub read_all :
     {visits : List Visit} {ws : List Word} (p : ℕ) (rest whole : Word) → (visit_at visits p).step ≡ None → p < length visits → Linked visits ws → word_at ws p ++ reverse rest ≡ whole
     → reverse rest ≡ whole
-read_all {ws = ws} p rest whole is l d h = ap (λ (z : Word). z ++ reverse rest) (sym (subst (Spelt ws p) is (d.spelt p l))) ∙ h
+read_all {ws = ws} p rest whole is l d h = ap (λ (z : Word). z ++ reverse rest) (sym (subst (Spelt ws p) is (d.spelt p l)).1) ∙ h

@@ -23,9 +23,9 @@ visit_at visits p = slice_index_or visits p begin_visit
 abbrev pub word_at : List Word → ℕ → Word
 word_at ws p = slice_index_or ws p []
 
--- The word at a place is the empty one if no step leads there, else that of an earlier place with the step's key behind it.
+-- The word at the first place is the empty one, to which no step leads; at any other it is that of an earlier place with the step's key behind it.
 abbrev pub Spelt : List Word → ℕ → Option Step → Type 0
-Spelt ws p None = word_at ws p ≡ []
+Spelt ws p None = (p ≡ 0) × (word_at ws p ≡ [])
 Spelt ws p (Some s) = (s.from < p) × (word_at ws p ≡ word_at ws s.from ++ (s.key ∷ []))
 
 -- The visits have these words, by their steps.

@@ -8,3 +8,4 @@ pub mod Entries
 pub mod Ends
 pub mod Sums
 pub mod Memories
+pub mod Views

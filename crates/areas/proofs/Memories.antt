@@ -15,15 +15,15 @@ dims_kept w = ap dims w.shape
 
 -- Nothing was written.
 pub writes_none : {change : List ℕ → List ℕ → Dims → Type 0} (m : Memory) → change m.words.now m.words.now (dims m.shape) → Writes m m change
-writes_none m h = record { reference = refl; shape = refl; words = h }
+writes_none m h = record { reference = refl; shape = refl; long = refl; words = h }
 
 -- What one write did, said in other words.
 pub writes_so : {m n : Memory} {change other : List ℕ → List ℕ → Dims → Type 0} → Writes m n change → other m.words.now n.words.now (dims m.shape) → Writes m n other
-writes_so w h = record { reference = w.reference; shape = w.shape; words = h }
+writes_so w h = record { reference = w.reference; shape = w.shape; long = w.long; words = h }
 
 -- What two writes did, one after the other.
 pub writes_then : {m n o : Memory} {change other both : List ℕ → List ℕ → Dims → Type 0} → Writes m n change → Writes n o other → both m.words.now o.words.now (dims m.shape) → Writes m o both
-writes_then v w h = record { reference = w.reference ∙ v.reference; shape = w.shape ∙ v.shape; words = h }
+writes_then v w h = record { reference = w.reference ∙ v.reference; shape = w.shape ∙ v.shape; long = w.long ∙ v.long; words = h }
 
 -- Two writes, of which only the memory and its shape matter.
 pub writes_on : {m n o : Memory} {change other : List ℕ → List ℕ → Dims → Type 0} → Writes m n change → Writes n o other → Writes m o (λ w w' d. Unit {0})

@@ -1,11 +1,11 @@
-// Many words of an area at once: a part that is read, a word's letters written from a place on, and areas that are cleared.
-ghost use Rattle.std.specs.Prelude.{◌≡◌, length, replicate};
+// Many words of an area at once: a word's letters written from a place on, and areas that are cleared.
+ghost use Rattle.std.specs.Prelude.{◌≡◌, replicate};
 ghost use Rattle.areas.specs.Bulk.{laid, Copied, Cleared, ClearedBefore};
-ghost use Rattle.areas.specs.Layout.{area_of};
-ghost use Rattle.areas.specs.Memories.{Reads, Writes};
+ghost use Rattle.areas.specs.Memories.{Writes};
 
 use crate::area::Area;
 use crate::memory::Memory;
+use crate::reading::Readable;
 
 // Writes the letters from the start on, as far as both go.
 fn copy_front(part: &mut [u32], word: &[u32])
@@ -16,18 +16,6 @@ fn copy_front(part: &mut [u32], word: &[u32])
 }
 
 impl Memory<'_> {
-    // How many words of the area the memory has.
-    pub fn reach(&self, area: Area) -> usize
-        ensures { Reads self.now (λ w d. result ≡ length (area_of w d area)) }
-    {
-        let base = self.shape.base(area);
-        if base < self.words.len() {
-            self.shape.size(area).min(self.words.len() - base)
-        } else {
-            0
-        }
-    }
-
     // Writes the word's letters from a place of the area on, as far as the area goes.
     pub fn copy_in(&mut self, area: Area, at: usize, word: &[u32])
         ensures { Writes self.old self.new (λ w w' d. Copied w w' d area at word.now) }

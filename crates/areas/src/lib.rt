@@ -5,6 +5,7 @@ pub mod area;
 pub mod bulk;
 pub mod memory;
 pub mod places;
+pub mod reading;
 pub mod records;
 pub mod shape;
 pub mod spans;

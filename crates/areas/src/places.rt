@@ -1,41 +1,18 @@
-// One word of an area, or a number of two words: 0 is read past the area's end, and nothing is written there.
-ghost use Rattle.std.specs.Prelude.{◌≡◌, slice_index};
-ghost use Rattle.areas.specs.Words.{wide};
-ghost use Rattle.areas.specs.Layout.{area_of};
+// One word of an area, or a number of two words, written; past the area's end nothing is.
 ghost use Rattle.areas.specs.Frames.{Saved, SavedWide};
-ghost use Rattle.areas.specs.Memories.{Reads, Writes};
+ghost use Rattle.areas.specs.Memories.{Writes};
 
 use crate::area::Area;
 use crate::memory::Memory;
-use crate::words::{get, high, joined, low, put};
+use crate::words::{high, low, put};
 
-// One word and two are read and written by functions of their own: each word has a bound of its own, and a generic form would only forward to both.
+// One word and two are written by functions of their own, as they are read: each word has a bound of its own, and a generic form would only forward to both.
 impl Memory<'_> {
-    pub fn load(&self, area: Area, i: usize) -> u32
-        ensures { Reads self.now (λ w d. result ≡ slice_index (area_of w d area) i) }
-    {
-        if i < self.shape.size(area) {
-            get(self.words, self.shape.base(area) + i)
-        } else {
-            0
-        }
-    }
-
     pub fn save(&mut self, area: Area, i: usize, v: u32)
         ensures { Writes self.old self.new (λ w w' d. Saved w w' d area i v) }
     {
         if i < self.shape.size(area) {
             put(self.words, self.shape.base(area) + i, v);
-        }
-    }
-
-    pub fn load_wide(&self, area: Area, i: usize) -> usize
-        ensures { Reads self.now (λ w d. result ≡ wide (area_of w d area) i) }
-    {
-        if i < self.shape.size(area) {
-            joined(self.load(area, i), self.load(area, i + 1))
-        } else {
-            0
         }
     }
 

@@ -1,6 +1,7 @@
 // Shapes at their limits, and reads and writes at the ends of areas.
 use crate::area::Area;
-use crate::memory::Memory;
+use crate::memory::{Memory, View};
+use crate::reading::Readable;
 use crate::records::Record;
 use crate::shape::Shape;
 use std::test::Fail;
@@ -67,5 +68,27 @@ fn wide_records(rt: HostRuntime) -> Result<(), Fail> {
     assert_eq!(rt; read.start, 5000000000);
     assert_eq!(rt; read.shown, 4294967295);
     assert_eq!(rt; memory.record_at(last + 1).start, 0);
+    Ok(())
+}
+
+// Two views of one memory are read side by side.
+#[test]
+fn read_only(rt: HostRuntime) -> Result<(), Fail> {
+    let words = [5; 620];
+    let Some(shape) = Shape::new(1, 1, 620) else {
+        return Err(Fail::new("small"));
+    };
+    let view = View {
+        words: &words,
+        shape,
+    };
+    let other = view;
+    assert_eq!(rt; view.load(Area::Letters, 8), 5);
+    assert_eq!(rt; other.load(Area::Letters, 9), 0);
+    assert_eq!(rt; view.load_wide(Area::Letters, 0), 21474836485);
+    assert_eq!(rt; other.reach(Area::Letters), 9);
+    assert_eq!(rt; view.record_at(0).shown, 5);
+    assert_eq!(rt; other.span_at(1).size, 0);
+    assert_eq!(rt; view.keys(), other.most());
     Ok(())
 }

@@ -53,6 +53,6 @@ fn run(rt: &HostRuntime) -> Result<(), Problem> {
     }
 }
 
-fn main(rt: HostRuntime) -> io::Result<ExitCode> {
-    console::status(&rt, "audit", run(&rt))
+fn main(rt: HostRuntime) -> Result<ExitCode, Problem> {
+    Ok(console::status(&rt, "audit", run(&rt))?)
 }

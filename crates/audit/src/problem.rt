@@ -20,7 +20,7 @@ pub enum Problem {
     #[error("{0}: {1}")]
     Unread(String, io::Error),
     #[error(transparent)]
-    Output(#[from] io::Error),
+    Input(#[from] io::Error),
     #[error("out of memory")]
     NoReport(#[from] AuditFault),
     #[error("out of memory")]

@@ -8,6 +8,7 @@ ghost use Rattle.moves.specs.Holding.{Holds};
 ghost use Rattle.moves.specs.Observed.{page_at};
 
 use areas::memory::Memory;
+use areas::reading::Readable;
 use moves::counters;
 use moves::opening::read_shape;
 use promises::Wanted;
@@ -15,11 +16,11 @@ use rounds::settle;
 use writing::wanted;
 
 // Whether out might be too short for a question or a table.
-fn is_short(memory: &Memory<'_>, out: &[u32]) -> bool
-    ensures { Reads memory.now (λ w d. Holds w d → MatchBool result (length out.now < out_words d.keys d.most (length (page_at w d).log)) (out_words d.keys d.most (length (page_at w d).log) ≤ length out.now)) }
+fn is_short<M: Readable>(memory: &M, out: &[u32]) -> bool
+    ensures { Reads (M.held memory.now) (M.laid_for memory.now) (λ w d. Holds w d → MatchBool result (length out.now < out_words d.keys d.most (length (page_at w d).log)) (out_words d.keys d.most (length (page_at w d).log) ≤ length out.now)) }
 {
-    let keys = memory.shape.keys() as usize;
-    let most = memory.shape.most() as usize;
+    let keys = memory.keys() as usize;
+    let most = memory.most() as usize;
     let table = (keys + 1) * (most + 1) + most;
     out.len() < table || out.len() - table < counters::letters(memory)
 }

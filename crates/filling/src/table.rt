@@ -7,6 +7,7 @@ ghost use Rattle.filling.specs.Filled.{Filling, CellTried, EdgeTried, TableTried
 
 use crate::answered::cell_answer;
 use areas::memory::Memory;
+use areas::reading::Readable;
 use lookup::{find, spell};
 use moves::cells::{cell, set_cell};
 use moves::counters;
@@ -21,7 +22,7 @@ fn fill_cell(memory: &mut Memory<'_>, edge: Edge, suffix: u32) -> bool
         return true;
     }
     let word = cell_answer(memory, edge, suffix, 0);
-    let Some(number) = find(memory, spell(memory, word)) else {
+    let Some(number) = find(memory, spell(memory.view(), word)) else {
         enter(memory, Phase::AsksCell(edge, suffix));
         return false;
     };

@@ -3,9 +3,13 @@ use Rattle.std.proofs.Common.{◌≡◌, ℕ, zero, suc, ◌+◌, ◌-◌, ◌*�
 use Rattle.std.proofs.lemmas.List.{length-take, take-take, drop-take, length-map, get_or-map}
 use Rattle.areas.specs.declared.area.Area.TheVariants.{Header, Access, Sizes, Answers, Letters}
 use Rattle.areas.specs.declared.records.Record.{Record}
+use Rattle.areas.specs.declared.shape.Shape.{Shape}
 use Rattle.areas.specs.Words.{wide}
 use Rattle.areas.specs.Layout.{Dims, area_of}
+use Rattle.areas.specs.Memories.{Reads}
 use Rattle.areas.specs.Records.{record_in}
+use Rattle.areas.proofs.Views.{viewed}
+use Rattle.machines.specs.Words.{Word}
 use Rattle.model.specs.Observations.{Answer, no_answer, count, word_at}
 use Rattle.model.specs.Pages.{Entry, no_entry, keyed, answer_of, observations_of}
 use Rattle.model.proofs.Tabulating.{length-tabulate, get_d_tabulate}
@@ -67,3 +71,11 @@ word_named w d c h =
 pub answer_spelt : (w : List ℕ) (d : Dims) (c : ℕ) (r : Record) (word : List ℕ) → AllNamed w d → c < get_or (area_of w d Header) answers_word 0 → r ≡ record_in (area_of w d Answers) c → (Named (page_of w d) r → word ≡ named_word (page_of w d) r) → word ≡ word_at (observations_of (page_of w d)) c
 answer_spelt w d c r word all h e spells =
     subst (λ (z : Record). (Named (page_of w d) z → word ≡ named_word (page_of w d) z)) e spells (all c h) ∙ sym (word_named w d c h)
+
+-- What is spelt of a view is so of the memory that it is a view of.
+pub spelt_viewed : {words held : List ℕ} {shape laid_for : Shape} {r : Record} {u : Word} → words ≡ held → shape ≡ laid_for → Reads words shape (λ w d. Named (page_of w d) r → u ≡ named_word (page_of w d) r) → Reads held laid_for (λ w d. Named (page_of w d) r → u ≡ named_word (page_of w d) r)
+spelt_viewed {r = r} {u = u} = viewed (λ w d. Named (page_of w d) r → u ≡ named_word (page_of w d) r)
+
+-- And the rest of a word.
+pub rest_viewed : {words held : List ℕ} {shape laid_for : Shape} {r : Record} {u : Word} → words ≡ held → shape ≡ laid_for → Reads words shape (λ w d. Named (page_of w d) r → u ≡ named_rest (page_of w d) r) → Reads held laid_for (λ w d. Named (page_of w d) r → u ≡ named_rest (page_of w d) r)
+rest_viewed {r = r} {u = u} = viewed (λ w d. Named (page_of w d) r → u ≡ named_rest (page_of w d) r)

@@ -9,12 +9,14 @@ ghost use Rattle.moves.specs.Observed.{page_at};
 use crate::counters;
 use areas::area::Area;
 use areas::memory::Memory;
+use areas::reading::Readable;
 use areas::records::Record;
 use store::header;
 
 // Answer c, where there are so many.
-pub fn entry(memory: &Memory<'_>, c: u32) -> Record
-    ensures { Reads memory.now (λ w d. c < length (page_at w d).entries → entry_of result ≡ entry_at (page_at w d) c) }
+#[inline(always)]
+pub fn entry<M: Readable>(memory: &M, c: u32) -> Record
+    ensures { Reads (M.held memory.now) (M.laid_for memory.now) (λ w d. c < length (page_at w d).entries → entry_of result ≡ entry_at (page_at w d) c) }
 {
     memory.record_at(c as usize)
 }

@@ -11,53 +11,54 @@ ghost use Rattle.moves.specs.Observed.{page_at};
 
 use areas::area::Area;
 use areas::memory::Memory;
+use areas::reading::Readable;
 use store::header;
 
-pub fn rows(memory: &Memory<'_>) -> u32
-    ensures word { Reads memory.now (λ w d. result ≡ slice_index (area_of w d Header) rows_word) }
-    ensures count { Reads memory.now (λ w d. result ≡ length (page_at w d).access) }
+pub fn rows<M: Readable>(memory: &M) -> u32
+    ensures word { Reads (M.held memory.now) (M.laid_for memory.now) (λ w d. result ≡ slice_index (area_of w d Header) rows_word) }
+    ensures count { Reads (M.held memory.now) (M.laid_for memory.now) (λ w d. result ≡ length (page_at w d).access) }
 {
     memory.load(Area::Header, header::ROWS)
 }
 
-pub fn suffixes(memory: &Memory<'_>) -> u32
-    ensures word { Reads memory.now (λ w d. result ≡ slice_index (area_of w d Header) suffixes_word) }
-    ensures count { Reads memory.now (λ w d. result ≡ length (page_at w d).suffixes) }
+pub fn suffixes<M: Readable>(memory: &M) -> u32
+    ensures word { Reads (M.held memory.now) (M.laid_for memory.now) (λ w d. result ≡ slice_index (area_of w d Header) suffixes_word) }
+    ensures count { Reads (M.held memory.now) (M.laid_for memory.now) (λ w d. result ≡ length (page_at w d).suffixes) }
 {
     memory.load(Area::Header, header::SUFFIXES)
 }
 
-pub fn answers(memory: &Memory<'_>) -> u32
-    ensures word { Reads memory.now (λ w d. result ≡ slice_index (area_of w d Header) answers_word) }
-    ensures count { Reads memory.now (λ w d. result ≡ length (page_at w d).entries) }
+pub fn answers<M: Readable>(memory: &M) -> u32
+    ensures word { Reads (M.held memory.now) (M.laid_for memory.now) (λ w d. result ≡ slice_index (area_of w d Header) answers_word) }
+    ensures count { Reads (M.held memory.now) (M.laid_for memory.now) (λ w d. result ≡ length (page_at w d).entries) }
 {
     memory.load(Area::Header, header::ANSWERS)
 }
 
-pub fn letters(memory: &Memory<'_>) -> usize
-    ensures word { Reads memory.now (λ w d. result ≡ wide (area_of w d Header) letters_word) }
-    ensures count { Reads memory.now (λ w d. length w ≡ d.length → LogFits w d → result ≡ length (page_at w d).log) }
+pub fn letters<M: Readable>(memory: &M) -> usize
+    ensures word { Reads (M.held memory.now) (M.laid_for memory.now) (λ w d. result ≡ wide (area_of w d Header) letters_word) }
+    ensures count { Reads (M.held memory.now) (M.laid_for memory.now) (λ w d. length w ≡ d.length → LogFits w d → result ≡ length (page_at w d).log) }
 {
     memory.load_wide(Area::Header, header::LETTERS)
 }
 
 // How many answers were got in searches.
-pub fn bisected(memory: &Memory<'_>) -> u32
-    ensures { Reads memory.now (λ w d. result ≡ (model_of w d).bisected) }
+pub fn bisected<M: Readable>(memory: &M) -> u32
+    ensures { Reads (M.held memory.now) (M.laid_for memory.now) (λ w d. result ≡ (model_of w d).bisected) }
 {
     memory.load(Area::Header, header::BISECTED)
 }
 
 // How many refutations there were.
-pub fn refutes(memory: &Memory<'_>) -> u32
-    ensures { Reads memory.now (λ w d. result ≡ (model_of w d).refutes) }
+pub fn refutes<M: Readable>(memory: &M) -> u32
+    ensures { Reads (M.held memory.now) (M.laid_for memory.now) (λ w d. result ≡ (model_of w d).refutes) }
 {
     memory.load(Area::Header, header::REFUTES)
 }
 
 // How many rows the last table shown had.
-pub fn last(memory: &Memory<'_>) -> u32
-    ensures { Reads memory.now (λ w d. result ≡ (model_of w d).last) }
+pub fn last<M: Readable>(memory: &M) -> u32
+    ensures { Reads (M.held memory.now) (M.laid_for memory.now) (λ w d. result ≡ (model_of w d).last) }
 {
     memory.load(Area::Header, header::LAST)
 }

@@ -7,11 +7,12 @@ ghost use Rattle.moves.specs.Observed.{page_at};
 use crate::counters;
 use areas::area::Area;
 use areas::memory::Memory;
+use areas::reading::Readable;
 use store::header;
 
 // Letter i of the log, where there are so many.
-pub fn log_letter(memory: &Memory<'_>, i: usize) -> u32
-    ensures { Reads memory.now (λ w d. i < length (page_at w d).log → result ≡ slice_index (page_at w d).log i) }
+pub fn log_letter<M: Readable>(memory: &M, i: usize) -> u32
+    ensures { Reads (M.held memory.now) (M.laid_for memory.now) (λ w d. i < length (page_at w d).log → result ≡ slice_index (page_at w d).log i) }
 {
     memory.load(Area::Letters, i)
 }

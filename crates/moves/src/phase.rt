@@ -12,6 +12,7 @@ ghost use Rattle.moves.specs.Making.{ChangesBy};
 use crate::numbers::Edge;
 use areas::area::Area;
 use areas::memory::Memory;
+use areas::reading::Readable;
 use store::header;
 
 // A search by halves along an answer: its two ends, and the answers to the mixed words there.
@@ -37,8 +38,8 @@ pub enum Phase {
     Broken,
 }
 
-fn search_of(memory: &Memory<'_>) -> Search
-    ensures { Reads memory.now (λ w d. search_value result ≡ search_in (area_of w d Header)) }
+fn search_of<M: Readable>(memory: &M) -> Search
+    ensures { Reads (M.held memory.now) (M.laid_for memory.now) (λ w d. search_value result ≡ search_in (area_of w d Header)) }
 {
     Search {
         along: memory.load(Area::Header, header::FIRST),
@@ -50,8 +51,8 @@ fn search_of(memory: &Memory<'_>) -> Search
 }
 
 // The phase stands in the lent memory as a number and the words that belong to it.
-pub fn phase_of(memory: &Memory<'_>) -> Phase
-    ensures { Reads memory.now (λ w d. phase_value result ≡ (model_of w d).phase) }
+pub fn phase_of<M: Readable>(memory: &M) -> Phase
+    ensures { Reads (M.held memory.now) (M.laid_for memory.now) (λ w d. phase_value result ≡ (model_of w d).phase) }
 {
     let first = memory.load(Area::Header, header::FIRST);
     let second = memory.load(Area::Header, header::SECOND);

@@ -10,34 +10,35 @@ use crate::counters;
 use crate::numbers::{Edge, Row};
 use areas::area::Area;
 use areas::memory::Memory;
+use areas::reading::Readable;
 use store::header;
 
 // The edge that a row is, where there are so many.
-pub fn edge_of(memory: &Memory<'_>, row: Row) -> Edge
-    ensures { Reads memory.now (λ w d. row.0 < rows_in (observed_at w d) → result.0 ≡ edge_in (observed_at w d) row.0) }
+pub fn edge_of<M: Readable>(memory: &M, row: Row) -> Edge
+    ensures { Reads (M.held memory.now) (M.laid_for memory.now) (λ w d. row.0 < rows_in (observed_at w d) → result.0 ≡ edge_in (observed_at w d) row.0) }
 {
     Edge(memory.load(Area::Edges, row.0 as usize))
 }
 
 // How many letters the access word of a row has.
-pub fn access_size(memory: &Memory<'_>, row: Row) -> u32
-    ensures { Reads memory.now (λ w d. RowIn w d row.0 → result ≡ length (access_word (observed_at w d) row.0)) }
+pub fn access_size<M: Readable>(memory: &M, row: Row) -> u32
+    ensures { Reads (M.held memory.now) (M.laid_for memory.now) (λ w d. RowIn w d row.0 → result ≡ length (access_word (observed_at w d) row.0)) }
 {
     memory.load(Area::Sizes, row.0 as usize)
 }
 
 // Letter i of the access word of a row.
-pub fn access_letter(memory: &Memory<'_>, row: Row, i: u32) -> u32
-    ensures { Reads memory.now (λ w d. AccessLetter w d row.0 i result) }
+pub fn access_letter<M: Readable>(memory: &M, row: Row, i: u32) -> u32
+    ensures { Reads (M.held memory.now) (M.laid_for memory.now) (λ w d. AccessLetter w d row.0 i result) }
 {
-    let start = row.0 as usize * memory.shape.most() as usize;
+    let start = row.0 as usize * memory.most() as usize;
     memory.load(Area::Access, start + i as usize)
 }
 
 // Writes the access word of a row to the front of out, as far as out goes, and answers how many letters those are.
-pub fn write_access(memory: &Memory<'_>, row: Row, out: &mut [u32]) -> usize
+pub fn write_access<M: Readable>(memory: &M, row: Row, out: &mut [u32]) -> usize
     ensures within { result ≤ length out.new }
-    ensures written { Reads memory.now (λ w d. AccessWritten w d row.0 out.new result) }
+    ensures written { Reads (M.held memory.now) (M.laid_for memory.now) (λ w d. AccessWritten w d row.0 out.new result) }
 {
     let size = access_size(memory, row);
     let end = out.len().min(size as usize);
@@ -48,19 +49,19 @@ pub fn write_access(memory: &Memory<'_>, row: Row, out: &mut [u32]) -> usize
 }
 
 // Writes the word of an edge to the front of out, as far as out goes, and answers how many letters those are.
-pub fn write_edge(memory: &Memory<'_>, edge: Edge, out: &mut [u32]) -> usize
+pub fn write_edge<M: Readable>(memory: &M, edge: Edge, out: &mut [u32]) -> usize
     ensures within { result ≤ length out.new }
-    ensures written { Reads memory.now (λ w d. EdgeWritten w d edge.0 out.new result) }
+    ensures written { Reads (M.held memory.now) (M.laid_for memory.now) (λ w d. EdgeWritten w d edge.0 out.new result) }
 {
     if edge.0 == 0 {
         return 0;
     }
     let number = edge.0 - 1;
-    let size = write_access(memory, Row(number / memory.shape.keys()), out);
+    let size = write_access(memory, Row(number / memory.keys()), out);
     if size == out.len() {
         return size;
     }
-    out[size] = number % memory.shape.keys();
+    out[size] = number % memory.keys();
     size + 1
 }
 

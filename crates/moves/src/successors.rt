@@ -8,9 +8,10 @@ ghost use Rattle.moves.specs.Making.{MakesBy};
 use crate::numbers::{Edge, Row};
 use areas::area::Area;
 use areas::memory::Memory;
+use areas::reading::Readable;
 
-pub fn successor(memory: &Memory<'_>, edge: Edge) -> Row
-    ensures { Reads memory.now (λ w d. result.0 ≡ slice_index (model_of w d).successors edge.0) }
+pub fn successor<M: Readable>(memory: &M, edge: Edge) -> Row
+    ensures { Reads (M.held memory.now) (M.laid_for memory.now) (λ w d. result.0 ≡ slice_index (model_of w d).successors edge.0) }
 {
     Row(memory.load(Area::Successors, edge.0 as usize))
 }

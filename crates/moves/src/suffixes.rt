@@ -8,12 +8,13 @@ ghost use Rattle.moves.specs.Observed.{page_at};
 use crate::counters;
 use areas::area::Area;
 use areas::memory::Memory;
+use areas::reading::Readable;
 use areas::spans::Span;
 use store::header;
 
 // Suffix e, where there are so many.
-pub fn suffix(memory: &Memory<'_>, e: u32) -> Span
-    ensures { Reads memory.now (λ w d. e < length (page_at w d).suffixes → span_value result ≡ suffix_span (page_at w d) e) }
+pub fn suffix<M: Readable>(memory: &M, e: u32) -> Span
+    ensures { Reads (M.held memory.now) (M.laid_for memory.now) (λ w d. e < length (page_at w d).suffixes → span_value result ≡ suffix_span (page_at w d) e) }
 {
     memory.span_at(e as usize)
 }

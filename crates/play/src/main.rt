@@ -48,6 +48,6 @@ fn run(rt: &HostRuntime) -> Result<(), Problem> {
     Ok(())
 }
 
-fn main(rt: HostRuntime) -> io::Result<ExitCode> {
-    console::status(&rt, "play", run(&rt))
+fn main(rt: HostRuntime) -> Result<ExitCode, Problem> {
+    Ok(console::status(&rt, "play", run(&rt))?)
 }

@@ -7,7 +7,7 @@ ghost use Rattle.model.specs.Models.{view_model};
 ghost use Rattle.store.specs.Decoding.{model_of};
 ghost use Rattle.refuting.specs.Showing.{ShowsWord};
 
-use areas::memory::Memory;
+use areas::reading::Readable;
 use moves::cells::seen;
 use moves::numbers::Row;
 use moves::rows::edge_of;
@@ -15,15 +15,15 @@ use spelling::Spelling;
 use walks::lead;
 
 // The row to which a word leads from the first.
-pub fn row_after(memory: &Memory<'_>, word: &[u32]) -> Row
-    ensures { Reads memory.now (λ w d. result.0 ≡ leads_to d.keys (model_of w d).successors 0 word.now) }
+pub fn row_after<M: Readable>(memory: &M, word: &[u32]) -> Row
+    ensures { Reads (M.held memory.now) (M.laid_for memory.now) (λ w d. result.0 ≡ leads_to d.keys (model_of w d).successors 0 word.now) }
 {
     lead(memory, Row(0), Spelling::from(word), word.len())
 }
 
 // What the table shows after a word of keys.
-pub fn shown_after(memory: &Memory<'_>, word: &[u32]) -> u32
-    ensures { Reads memory.now (λ w d. ShowsWord w d word.now → result ≡ shows d.keys (view_model (model_of w d)).hypothesis word.now) }
+pub fn shown_after<M: Readable>(memory: &M, word: &[u32]) -> u32
+    ensures { Reads (M.held memory.now) (M.laid_for memory.now) (λ w d. ShowsWord w d word.now → result ≡ shows d.keys (view_model (model_of w d)).hypothesis word.now) }
 {
     let row = row_after(memory, word);
     seen(memory, edge_of(memory, row), 0).unwrap_or(0)

@@ -9,6 +9,7 @@ ghost use Rattle.refuting.specs.Showing.{ShowsWord, BeginsSearch, Refutable, Roo
 
 use crate::hypothesis::row_after;
 use areas::memory::Memory;
+use areas::reading::Readable;
 use areas::records::Record;
 use lookup::find;
 use moves::answers::add_entry;
@@ -20,8 +21,8 @@ use moves::rows::edge_of;
 use spelling::Spelling;
 
 // The search along a word that is about to be kept, from end to end.
-fn first_search(memory: &Memory<'_>, word: &[u32]) -> Search
-    ensures { Reads memory.now (λ w d. ShowsWord w d word.now → BeginsSearch w d word.now result) }
+fn first_search<M: Readable>(memory: &M, word: &[u32]) -> Search
+    ensures { Reads (M.held memory.now) (M.laid_for memory.now) (λ w d. ShowsWord w d word.now → BeginsSearch w d word.now result) }
 {
     let number = counters::answers(memory);
     let edge = edge_of(memory, row_after(memory, word));

@@ -55,6 +55,6 @@ fn run(rt: &HostRuntime) -> Result<(), Wrong> {
     }
 }
 
-fn main(rt: HostRuntime) -> io::Result<ExitCode> {
-    console::status(&rt, "restore", run(&rt))
+fn main(rt: HostRuntime) -> Result<ExitCode, Wrong> {
+    Ok(console::status(&rt, "restore", run(&rt))?)
 }

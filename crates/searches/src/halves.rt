@@ -10,7 +10,7 @@ ghost use Rattle.moves.specs.Observed.{observed_at};
 ghost use Rattle.moves.specs.Phases.{search_value};
 ghost use Rattle.searches.specs.Searching.{Halves};
 
-use areas::memory::Memory;
+use areas::reading::Readable;
 use lookup::rest;
 use moves::answers::entry;
 use moves::cells::cell;
@@ -19,10 +19,10 @@ use moves::rows::edge_of;
 use walks::end_row;
 
 // The search along an answer that the hypothesis gets wrong begins at its two ends.
-pub fn start(memory: &Memory<'_>, along: u32) -> Search
-    ensures { Reads memory.now (λ w d. Holds w d → Closed d.keys d.most (observed_at w d) (model_of w d).successors → along < count (observed_at w d) → search_value result ≡ first_bisection d.keys d.most (observed_at w d) (model_of w d).successors along) }
+pub fn start<M: Readable>(memory: &M, along: u32) -> Search
+    ensures { Reads (M.held memory.now) (M.laid_for memory.now) (λ w d. Holds w d → Closed d.keys d.most (observed_at w d) (model_of w d).successors → along < count (observed_at w d) → search_value result ≡ first_bisection d.keys d.most (observed_at w d) (model_of w d).successors along) }
 {
-    let word = rest(memory, entry(memory, along));
+    let word = rest(memory.view(), entry(memory, along));
     let edge = edge_of(memory, end_row(memory, along));
     Search {
         along,
@@ -41,8 +41,8 @@ pub fn middle(search: Search) -> usize
 }
 
 // The half of a search in which the answers at its ends still differ, where this answer is to the middle's word.
-pub fn half(memory: &Memory<'_>, search: Search, told: u32) -> Search
-    ensures exact { Reads memory.now (λ w d. Halves w d search told result) }
+pub fn half<M: Readable>(memory: &M, search: Search, told: u32) -> Search
+    ensures exact { Reads (M.held memory.now) (M.laid_for memory.now) (λ w d. Halves w d search told result) }
     ensures shorter { search.low + 1 < search.high → result.high - result.low < search.high - search.low }
 {
     let place = middle(search);

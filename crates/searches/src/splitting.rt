@@ -8,6 +8,7 @@ ghost use Rattle.moves.specs.Phases.{search_value};
 ghost use Rattle.searches.specs.Searching.{Searching, Splits};
 
 use areas::memory::Memory;
+use areas::reading::Readable;
 use lookup::rest;
 use moves::answers::entry;
 use moves::cells::set_cell;
@@ -20,12 +21,12 @@ use moves::suffixes::add_suffix;
 use walks::{row_along, span_behind};
 
 // The edge at the place where a search has ended.
-pub(crate) fn last_edge(memory: &Memory<'_>, search: Search) -> Edge
-    ensures { Reads memory.now (λ w d. Searching w d search → result.0 ≡ last_edge d.keys (observed_at w d) (model_of w d).successors (search_value search)) }
+pub(crate) fn last_edge<M: Readable>(memory: &M, search: Search) -> Edge
+    ensures { Reads (M.held memory.now) (M.laid_for memory.now) (λ w d. Searching w d search → result.0 ≡ last_edge d.keys (observed_at w d) (model_of w d).successors (search_value search)) }
 {
     let row = row_along(memory, search.along, search.low);
-    let word = rest(memory, entry(memory, search.along));
-    edge_behind(memory.shape, row, Key(word.letter(search.low)))
+    let word = rest(memory.view(), entry(memory, search.along));
+    edge_behind(memory.view().shape, row, Key(word.letter(search.low)))
 }
 
 // One suffix and one row more, after which the edge and the row that it led to differ.

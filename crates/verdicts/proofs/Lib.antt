@@ -1,7 +1,7 @@
 -- Lemmas of this crate.
 pub mod Compared
 pub mod Slices
-pub mod Sought
+pub mod Halves
 pub mod Inserted
 pub mod Kept
 pub mod Quiet

@@ -33,11 +33,22 @@ fn word_of(answers: &[Answer], i: usize) -> &[u32]
 }
 
 // Where u with x behind it stands in the order, or where it would stand.
+// By hand, since the library's search compares once more at its end, and goes on where it has found the word.
 fn search(answers: &[Answer], order: &[usize], u: &[u32], x: &[u32]) -> Result<usize, usize>
     requires { Sorted (told answers.now) order.now }
     ensures { Sought (told answers.now) order.now (u.now ++ x.now) result }
 {
-    order.binary_search_by(|i| compare(word_of(answers, *i), u, x))
+    let mut low = 0;
+    let mut high = order.len();
+    while low < high {
+        let middle = low + (high - low) / 2;
+        match compare(word_of(answers, order[middle]), u, x) {
+            Ordering::Less => low = middle + 1,
+            Ordering::Equal => return Ok(middle),
+            Ordering::Greater => high = middle,
+        }
+    }
+    Err(low)
 }
 
 // Takes answer i into the order of the answers before it, unless its word is there.

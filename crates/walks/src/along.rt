@@ -10,7 +10,7 @@ ghost use Rattle.moves.specs.Observed.{observed_at};
 ghost use Rattle.walks.specs.Along.{Behind, Mixed};
 
 use crate::leads::lead;
-use areas::memory::Memory;
+use areas::reading::Readable;
 use areas::records::Record;
 use areas::spans::Span;
 use lookup::rest;
@@ -18,11 +18,11 @@ use moves::answers::entry;
 use moves::numbers::Row;
 
 // The row to which the first letters of an answer's rest lead.
-pub fn row_along(memory: &Memory<'_>, along: u32, place: usize) -> Row
-    ensures { Reads memory.now (λ w d. Holds w d → along < count (observed_at w d) → result.0 ≡ row_along d.keys (observed_at w d) (model_of w d).successors along place) }
+pub fn row_along<M: Readable>(memory: &M, along: u32, place: usize) -> Row
+    ensures { Reads (M.held memory.now) (M.laid_for memory.now) (λ w d. Holds w d → along < count (observed_at w d) → result.0 ≡ row_along d.keys (observed_at w d) (model_of w d).successors along place) }
 {
     let answer = entry(memory, along);
-    let word = rest(memory, answer);
+    let word = rest(memory.view(), answer);
     lead(memory, Row(answer.row), word, place)
 }
 
@@ -42,15 +42,17 @@ fn cut(answer: Record, place: usize) -> Span
 }
 
 // The part of the log behind a place in the rest of an answer.
-pub fn span_behind(memory: &Memory<'_>, along: u32, place: usize) -> Span
-    ensures { Reads memory.now (λ w d. Behind w d along place result) }
+pub fn span_behind<M: Readable>(memory: &M, along: u32, place: usize) -> Span
+    ensures { Reads (M.held memory.now) (M.laid_for memory.now) (λ w d. Behind w d along place result) }
 {
+    // How long the words are is known of a view alone.
+    let _view = memory.view();
     cut(entry(memory, along), place)
 }
 
 // The word along an answer at a place: the row's word to which the letters before lead, and the letters behind.
-pub fn mixed(memory: &Memory<'_>, along: u32, place: usize, shown: u32) -> Record
-    ensures { Reads memory.now (λ w d. Mixed w d along place shown result) }
+pub fn mixed<M: Readable>(memory: &M, along: u32, place: usize, shown: u32) -> Record
+    ensures { Reads (M.held memory.now) (M.laid_for memory.now) (λ w d. Mixed w d along place shown result) }
 {
     let row = row_along(memory, along, place);
     let span = span_behind(memory, along, place);

@@ -8,7 +8,7 @@ ghost use Rattle.moves.specs.Observed.{observed_at, seen_value};
 ghost use Rattle.walks.specs.Agreeing.{FirstWrong};
 
 use crate::leads::lead;
-use areas::memory::Memory;
+use areas::reading::Readable;
 use lookup::rest;
 use moves::answers::entry;
 use moves::cells::seen;
@@ -17,17 +17,17 @@ use moves::numbers::Row;
 use moves::rows::edge_of;
 
 // The row to which an answer's word leads.
-pub fn end_row(memory: &Memory<'_>, c: u32) -> Row
-    ensures { Reads memory.now (λ w d. Holds w d → c < count (observed_at w d) → result.0 ≡ end_row d.keys (observed_at w d) (model_of w d).successors c) }
+pub fn end_row<M: Readable>(memory: &M, c: u32) -> Row
+    ensures { Reads (M.held memory.now) (M.laid_for memory.now) (λ w d. Holds w d → c < count (observed_at w d) → result.0 ≡ end_row d.keys (observed_at w d) (model_of w d).successors c) }
 {
     let answer = entry(memory, c);
-    let word = rest(memory, answer);
+    let word = rest(memory.view(), answer);
     lead(memory, Row(answer.row), word, word.count())
 }
 
 // The first answer with which the hypothesis doesn't agree.
-pub fn first_wrong(memory: &Memory<'_>) -> Option<u32>
-    ensures { Reads memory.now (λ w d. FirstWrong w d result) }
+pub fn first_wrong<M: Readable>(memory: &M) -> Option<u32>
+    ensures { Reads (M.held memory.now) (M.laid_for memory.now) (λ w d. FirstWrong w d result) }
 {
     for c in 0..counters::answers(memory) {
         let edge = edge_of(memory, end_row(memory, c));

@@ -10,7 +10,7 @@ ghost use Rattle.writing.specs.Wants.{Wants};
 
 use crate::table::write_table;
 use crate::words::ask;
-use areas::memory::Memory;
+use areas::reading::Readable;
 use filling::cell_answer;
 use moves::phase::{Phase, phase_of};
 use promises::Wanted;
@@ -18,8 +18,8 @@ use searches::middle;
 use walks::mixed;
 
 // What is wanted, with the word or the table written to the front of out.
-pub fn wanted(memory: &Memory<'_>, out: &mut [u32]) -> Wanted
-    ensures wants { Reads memory.now (λ w d. Holds w d → out_words d.keys d.most (length (page_at w d).log) ≤ length out.old → Wants (model_of w d) out.old out.new result) }
+pub fn wanted<M: Readable>(memory: &M, out: &mut [u32]) -> Wanted
+    ensures wants { Reads (M.held memory.now) (M.laid_for memory.now) (λ w d. Holds w d → out_words d.keys d.most (length (page_at w d).log) ≤ length out.old → Wants (model_of w d) out.old out.new result) }
     ensures stored { result ≢ NoStore }
 {
     match phase_of(memory) {

@@ -7,8 +7,8 @@ use Rattle.closing.specs.Missing.{KnownBefore}
 use Rattle.closing.proofs.gaps.first_gap.Given as goal
 
 abbrev pub invariant-loop-suffix : goal.invariant-loop-suffix
-invariant-loop-suffix l =
-    KnownBefore l.memory.words.now (dims l.memory.shape) l.u × ((e : ℕ) → e < l.suffix → 0 < seen (dims l.memory.shape).most (observed_at l.memory.words.now (dims l.memory.shape)) l.u e)
+invariant-loop-suffix g l =
+    KnownBefore (g.M.Readable.held l.memory) (dims (g.M.Readable.laid_for l.memory)) l.u × ((e : ℕ) → e < l.suffix → 0 < seen (dims (g.M.Readable.laid_for l.memory)).most (observed_at (g.M.Readable.held l.memory) (dims (g.M.Readable.laid_for l.memory))) l.u e)
 
 abbrev pub invariant-loop-u : goal.invariant-loop-u
-invariant-loop-u l = KnownBefore l.memory.words.now (dims l.memory.shape) l.u
+invariant-loop-u g l = KnownBefore (g.M.Readable.held l.memory) (dims (g.M.Readable.laid_for l.memory)) l.u

@@ -7,6 +7,6 @@ use Rattle.closing.specs.Missing.{CellsNamed}
 use Rattle.closing.proofs.likeness.differ.Given as goal
 
 abbrev pub invariant-loop-suffix : goal.invariant-loop-suffix
-invariant-loop-suffix l =
-    CellsNamed l.memory.words.now (dims l.memory.shape)
-    → (e : ℕ) → e < l.suffix → seen (dims l.memory.shape).most (observed_at l.memory.words.now (dims l.memory.shape)) l.left.0 e ≡ seen (dims l.memory.shape).most (observed_at l.memory.words.now (dims l.memory.shape)) l.right.0 e
+invariant-loop-suffix g l =
+    CellsNamed (g.M.Readable.held l.memory) (dims (g.M.Readable.laid_for l.memory))
+    → (e : ℕ) → e < l.suffix → seen (dims (g.M.Readable.laid_for l.memory)).most (observed_at (g.M.Readable.held l.memory) (dims (g.M.Readable.laid_for l.memory))) l.left.0 e ≡ seen (dims (g.M.Readable.laid_for l.memory)).most (observed_at (g.M.Readable.held l.memory) (dims (g.M.Readable.laid_for l.memory))) l.right.0 e

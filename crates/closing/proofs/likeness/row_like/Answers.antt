@@ -9,10 +9,10 @@ use Rattle.closing.proofs.Differing.{some_differs}
 use Rattle.closing.proofs.likeness.row_like.Goals as goal
 
 pub loop-j-preserved : goal.loop-j-preserved
-loop-j-preserved c named j h =
+loop-j-preserved g c named j h =
     ⊎_elim (λ (q : j ≡ c.loop-j.j).
     let edge = c.edge_of.ensures (omega (arith, c.rows-j-end.ensures.count)) in
-    let found = some_differs c.args.memory.now.words.now (dims c.args.memory.now.shape) c.args.edge.0 c.edge_of.result.0 c.differ.result (c.is_none.ensures ∙ ap not c.if-is_none.false) c.differ.ensures named in
-    subst (λ (z : ℕ). (e : ℕ) × DifferAt c.args.memory.now.words.now (dims c.args.memory.now.shape) c.args.edge.0 z e) (edge ∙ ap (edge_of (observed_at c.args.memory.now.words.now (dims c.args.memory.now.shape))) (sym q)) found)
+    let found = some_differs (g.M.Readable.held c.args.memory.now) (dims (g.M.Readable.laid_for c.args.memory.now)) c.args.edge.0 c.edge_of.result.0 c.differ.result (c.is_none.ensures ∙ ap not c.if-is_none.false) c.differ.ensures named in
+    subst (λ (z : ℕ). (e : ℕ) × DifferAt (g.M.Readable.held c.args.memory.now) (dims (g.M.Readable.laid_for c.args.memory.now)) c.args.edge.0 z e) (edge ∙ ap (edge_of (observed_at (g.M.Readable.held c.args.memory.now) (dims (g.M.Readable.laid_for c.args.memory.now)))) (sym q)) found)
     (⊎_elim (λ (q : j < c.loop-j.j). c.loop-j.invariant named j q) (λ (q : c.loop-j.j < j). absurd (omega (arith, h, q))))
     (cases_order j c.loop-j.j)

@@ -7,6 +7,6 @@ use Rattle.closing.specs.Missing.{CellsNamed, DifferAt}
 use Rattle.closing.proofs.likeness.row_like.Given as goal
 
 abbrev pub invariant-loop-j : goal.invariant-loop-j
-invariant-loop-j l =
-    CellsNamed l.memory.words.now (dims l.memory.shape)
-    → (j : ℕ) → j < l.j → (e : ℕ) × DifferAt l.memory.words.now (dims l.memory.shape) l.edge.0 (edge_of (observed_at l.memory.words.now (dims l.memory.shape)) j) e
+invariant-loop-j g l =
+    CellsNamed (g.M.Readable.held l.memory) (dims (g.M.Readable.laid_for l.memory))
+    → (j : ℕ) → j < l.j → (e : ℕ) × DifferAt (g.M.Readable.held l.memory) (dims (g.M.Readable.laid_for l.memory)) l.edge.0 (edge_of (observed_at (g.M.Readable.held l.memory) (dims (g.M.Readable.laid_for l.memory))) j) e

@@ -4,4 +4,4 @@ use Rattle.lookup.proofs.Spelled.{spelt_rest}
 use Rattle.lookup.proofs.parts.rest.Goals as goal
 
 pub returns : goal.returns
-returns c named = spelt_rest c.args.memory.now.words.now (dims c.args.memory.now.shape) c.args.word _ _ named c.checked_sub.ensures c.part-letters.ensures
+returns c named = spelt_rest c.args.memory.words.now (dims c.args.memory.shape) c.args.word _ _ named c.checked_sub.ensures c.part-letters.ensures

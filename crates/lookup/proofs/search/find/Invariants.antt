@@ -9,6 +9,6 @@ use Rattle.lookup.specs.Named.{AllNamed}
 use Rattle.lookup.proofs.search.find.Given as goal
 
 abbrev pub invariant-loop-c : goal.invariant-loop-c
-invariant-loop-c l =
-    AllNamed l.memory.words.now (dims l.memory.shape)
-    → (c : ℕ) → c < l.c → word_at (observations_of (page_of l.memory.words.now (dims l.memory.shape))) c ≡ spelt l.word → ⊥
+invariant-loop-c g l =
+    AllNamed (g.M.Readable.held l.memory) (dims (g.M.Readable.laid_for l.memory))
+    → (c : ℕ) → c < l.c → word_at (observations_of (page_of (g.M.Readable.held l.memory) (dims (g.M.Readable.laid_for l.memory)))) c ≡ spelt l.word → ⊥

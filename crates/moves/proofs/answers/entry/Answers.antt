@@ -5,4 +5,4 @@ use Rattle.moves.proofs.Decoded.{entry_read}
 use Rattle.moves.proofs.answers.entry.Goals as goal
 
 pub returns : goal.returns
-returns c = λ h. ap entry_of c.record_at.ensures ∙ sym (entry_read c.args.memory.now.words.now (dims c.args.memory.now.shape) c.args.c h)
+returns g c = λ h. ap entry_of c.record_at.ensures ∙ sym (entry_read (g.M.Readable.held c.args.memory.now) (dims (g.M.Readable.laid_for c.args.memory.now)) c.args.c h)

@@ -4,4 +4,4 @@ use Rattle.moves.proofs.Decoded.{bisected_read}
 use Rattle.moves.proofs.counters.bisected.Goals as goal
 
 pub returns : goal.returns
-returns c = c.load.ensures ∙ sym (bisected_read c.args.memory.now.words.now (dims c.args.memory.now.shape))
+returns g c = c.load.ensures ∙ sym (bisected_read (g.M.Readable.held c.args.memory.now) (dims (g.M.Readable.laid_for c.args.memory.now)))

@@ -4,4 +4,4 @@ use Rattle.moves.proofs.Decoded.{last_read}
 use Rattle.moves.proofs.counters.last.Goals as goal
 
 pub returns : goal.returns
-returns c = c.load.ensures ∙ sym (last_read c.args.memory.now.words.now (dims c.args.memory.now.shape))
+returns g c = c.load.ensures ∙ sym (last_read (g.M.Readable.held c.args.memory.now) (dims (g.M.Readable.laid_for c.args.memory.now)))

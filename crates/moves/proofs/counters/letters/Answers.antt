@@ -5,7 +5,7 @@ use Rattle.moves.proofs.Decoded.{letters_read}
 use Rattle.moves.proofs.counters.letters.Goals as goal
 
 pub returns : goal.returns
-returns c = record {
+returns g c = record {
   word = c.load_wide.ensures;
-  count = λ e f. c.load_wide.ensures ∙ sym (letters_read c.args.memory.now.words.now (dims c.args.memory.now.shape) (limits_of c.args.memory.now.shape) e f);
+  count = λ e f. c.load_wide.ensures ∙ sym (letters_read (g.M.Readable.held c.args.memory.now) (dims (g.M.Readable.laid_for c.args.memory.now)) (limits_of (g.M.Readable.laid_for c.args.memory.now)) e f);
 }

@@ -4,4 +4,4 @@ use Rattle.moves.proofs.Decoded.{suffixes_read}
 use Rattle.moves.proofs.counters.suffixes.Goals as goal
 
 pub returns : goal.returns
-returns c = record { word = c.load.ensures; count = c.load.ensures ∙ sym (suffixes_read c.args.memory.now.words.now (dims c.args.memory.now.shape)) }
+returns g c = record { word = c.load.ensures; count = c.load.ensures ∙ sym (suffixes_read (g.M.Readable.held c.args.memory.now) (dims (g.M.Readable.laid_for c.args.memory.now))) }

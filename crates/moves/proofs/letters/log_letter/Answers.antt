@@ -4,4 +4,4 @@ use Rattle.moves.proofs.Decoded.{letter_read}
 use Rattle.moves.proofs.letters.log_letter.Goals as goal
 
 pub returns : goal.returns
-returns c = λ h. c.load.ensures ∙ sym (letter_read c.args.memory.now.words.now (dims c.args.memory.now.shape) c.args.i h)
+returns g c = λ h. c.load.ensures ∙ sym (letter_read (g.M.Readable.held c.args.memory.now) (dims (g.M.Readable.laid_for c.args.memory.now)) c.args.i h)

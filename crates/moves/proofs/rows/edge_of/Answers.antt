@@ -4,4 +4,4 @@ use Rattle.moves.proofs.Spelled.{edge_read}
 use Rattle.moves.proofs.rows.edge_of.Goals as goal
 
 pub returns : goal.returns
-returns c = λ h. c.load.ensures ∙ sym (edge_read c.args.memory.now.words.now (dims c.args.memory.now.shape) c.args.row.0 h)
+returns g c = λ h. c.load.ensures ∙ sym (edge_read (g.M.Readable.held c.args.memory.now) (dims (g.M.Readable.laid_for c.args.memory.now)) c.args.row.0 h)

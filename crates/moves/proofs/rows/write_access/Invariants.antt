@@ -7,5 +7,5 @@ use Rattle.moves.specs.Spelling.{RowIn}
 use Rattle.moves.proofs.rows.write_access.Given as goal
 
 abbrev pub invariant-loop-i : goal.invariant-loop-i
-invariant-loop-i l =
-    RowIn l.memory.words.now (dims l.memory.shape) l.row.0 → take l.i l.letter-items ≡ take l.i (access_word (observed_in (model_of l.memory.words.now (dims l.memory.shape))) l.row.0)
+invariant-loop-i g l =
+    RowIn (g.M.Readable.held l.memory) (dims (g.M.Readable.laid_for l.memory)) l.row.0 → take l.i l.letter-items ≡ take l.i (access_word (observed_in (model_of (g.M.Readable.held l.memory) (dims (g.M.Readable.laid_for l.memory)))) l.row.0)

@@ -4,4 +4,4 @@ use Rattle.moves.proofs.Decoded.{successors_read}
 use Rattle.moves.proofs.successors.successor.Goals as goal
 
 pub returns : goal.returns
-returns c = c.load.ensures ∙ ap (λ (z : List ℕ). get_or z c.args.edge.0 0) (sym (successors_read c.args.memory.now.words.now (dims c.args.memory.now.shape)))
+returns g c = c.load.ensures ∙ ap (λ (z : List ℕ). get_or z c.args.edge.0 0) (sym (successors_read (g.M.Readable.held c.args.memory.now) (dims (g.M.Readable.laid_for c.args.memory.now))))

@@ -5,4 +5,4 @@ use Rattle.moves.proofs.Decoded.{suffix_read}
 use Rattle.moves.proofs.suffixes.suffix.Goals as goal
 
 pub returns : goal.returns
-returns c = λ h. ap span_value c.span_at.ensures ∙ sym (suffix_read c.args.memory.now.words.now (dims c.args.memory.now.shape) c.args.e h)
+returns g c = λ h. ap span_value c.span_at.ensures ∙ sym (suffix_read (g.M.Readable.held c.args.memory.now) (dims (g.M.Readable.laid_for c.args.memory.now)) c.args.e h)

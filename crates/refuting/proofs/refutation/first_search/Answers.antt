@@ -9,9 +9,9 @@ use Rattle.refuting.proofs.Keeping.{search_begun}
 use Rattle.refuting.proofs.refutation.first_search.Goals as goal
 
 pub returns : goal.returns
-returns c s a =
-    let w = c.args.memory.now.words.now in
-    let d = dims c.args.memory.now.shape in
+returns g c s a =
+    let w = (g.M.Readable.held c.args.memory.now) in
+    let d = dims (g.M.Readable.laid_for c.args.memory.now) in
     let inside = row_after_in w d c.args.word.now s in
     let edge = c.edge_of-edge.ensures (omega (arith, inside, c.row_after.ensures)) ∙ ap (edge_of (observed_at w d)) c.row_after.ensures in
     let read = c.cell.ensures ∙ ap (λ (z : ℕ). cell_at d.most (observed_at w d) z 0) edge in

@@ -9,9 +9,9 @@ use Rattle.searches.specs.Searching.{Searching}
 use Rattle.searches.proofs.narrowing.narrow.Given as goal
 
 abbrev pub invariant-loop-told : goal.invariant-loop-told
-invariant-loop-told l =
-    Holds l.memory.words.now (dims l.memory.shape) → (model_of l.memory.words.now (dims l.memory.shape)).phase ≡ bisecting (search_value l.initial.search)
-    → Searching l.memory.words.now (dims l.memory.shape) l.search
+invariant-loop-told g l =
+    Holds (g.M.Readable.held l.memory) (dims (g.M.Readable.laid_for l.memory)) → (model_of (g.M.Readable.held l.memory) (dims (g.M.Readable.laid_for l.memory))).phase ≡ bisecting (search_value l.initial.search)
+    → Searching (g.M.Readable.held l.memory) (dims (g.M.Readable.laid_for l.memory)) l.search
 
 abbrev pub decreases-loop-told : goal.decreases-loop-told
-decreases-loop-told l = l.search.high - l.search.low
+decreases-loop-told g l = l.search.high - l.search.low

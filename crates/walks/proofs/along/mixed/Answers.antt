@@ -5,4 +5,4 @@ use Rattle.walks.proofs.Places.{mixed_read}
 use Rattle.walks.proofs.along.mixed.Goals as goal
 
 pub returns : goal.returns
-returns c h closed = mixed_read c.args.memory.now.words.now (dims c.args.memory.now.shape) c.args.along c.args.place c.args.shown _ h closed (c.row_along-row.ensures h.held h.answer_in) refl (c.span_behind-span.ensures h) refl
+returns g c h closed = mixed_read (g.M.Readable.held c.args.memory.now) (dims (g.M.Readable.laid_for c.args.memory.now)) c.args.along c.args.place c.args.shown _ h closed (c.row_along-row.ensures h.held h.answer_in) refl (c.span_behind-span.ensures h) refl

@@ -9,6 +9,6 @@ use Rattle.walks.specs.Agreeing.{RightAt}
 use Rattle.walks.proofs.ends.first_wrong.Given as goal
 
 abbrev pub invariant-loop-c : goal.invariant-loop-c
-invariant-loop-c l =
-    Holds l.memory.words.now (dims l.memory.shape) → Closed (dims l.memory.shape).keys (dims l.memory.shape).most (observed_at l.memory.words.now (dims l.memory.shape)) (model_of l.memory.words.now (dims l.memory.shape)).successors
-    → (c : ℕ) → c < l.c → RightAt l.memory.words.now (dims l.memory.shape) c
+invariant-loop-c g l =
+    Holds (g.M.Readable.held l.memory) (dims (g.M.Readable.laid_for l.memory)) → Closed (dims (g.M.Readable.laid_for l.memory)).keys (dims (g.M.Readable.laid_for l.memory)).most (observed_at (g.M.Readable.held l.memory) (dims (g.M.Readable.laid_for l.memory))) (model_of (g.M.Readable.held l.memory) (dims (g.M.Readable.laid_for l.memory))).successors
+    → (c : ℕ) → c < l.c → RightAt (g.M.Readable.held l.memory) (dims (g.M.Readable.laid_for l.memory)) c

@@ -7,7 +7,7 @@ use Rattle.walks.proofs.Letters.{leads_on}
 use Rattle.walks.proofs.leads.lead.Goals as goal
 
 pub loop-i-preserved : goal.loop-i-preserved
-loop-i-preserved c =
+loop-i-preserved g c =
     c.next_row-row.ensures
-    ∙ ap (λ (z : ℕ). get_or (model_of c.args.memory.now.words.now (dims c.args.memory.now.shape)).successors (suc (c.loop-i.row.0 * (dims c.args.memory.now.shape).keys + z)) 0) c.letter.ensures
-    ∙ leads_on (dims c.args.memory.now.shape).keys (model_of c.args.memory.now.words.now (dims c.args.memory.now.shape)).successors c.args.from.0 c.loop-i.row.0 (spelt c.args.word) c.loop-i.i (omega (arith, c.min-i-end.ensures, c.count.ensures)) c.loop-i.invariant
+    ∙ ap (λ (z : ℕ). get_or (model_of (g.M.Readable.held c.args.memory.now) (dims (g.M.Readable.laid_for c.args.memory.now))).successors (suc (c.loop-i.row.0 * (dims (g.M.Readable.laid_for c.args.memory.now)).keys + z)) 0) c.letter.ensures
+    ∙ leads_on (dims (g.M.Readable.laid_for c.args.memory.now)).keys (model_of (g.M.Readable.held c.args.memory.now) (dims (g.M.Readable.laid_for c.args.memory.now))).successors c.args.from.0 c.loop-i.row.0 (spelt c.args.word) c.loop-i.i (omega (arith, c.min-i-end.ensures, c.count.ensures)) c.loop-i.invariant

@@ -7,4 +7,4 @@ use Rattle.spelling.specs.Spelt.{spelt}
 use Rattle.walks.proofs.leads.lead.Given as goal
 
 abbrev pub invariant-loop-i : goal.invariant-loop-i
-invariant-loop-i l = l.row.0 ≡ leads_to (dims l.memory.shape).keys (model_of l.memory.words.now (dims l.memory.shape)).successors l.initial.row.0 (take l.i (spelt l.word))
+invariant-loop-i g l = l.row.0 ≡ leads_to (dims (g.M.Readable.laid_for l.memory)).keys (model_of (g.M.Readable.held l.memory) (dims (g.M.Readable.laid_for l.memory))).successors l.initial.row.0 (take l.i (spelt l.word))

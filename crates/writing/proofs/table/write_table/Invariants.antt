@@ -6,4 +6,4 @@ use Rattle.writing.proofs.Entries.{table_read}
 use Rattle.writing.proofs.table.write_table.Given as goal
 
 abbrev pub invariant-loop-p : goal.invariant-loop-p
-invariant-loop-p l = Holds l.memory.words.now (dims l.memory.shape) → take l.p l.number-items ≡ take l.p (table_read l.memory.words.now (dims l.memory.shape))
+invariant-loop-p g l = Holds (g.M.Readable.held l.memory) (dims (g.M.Readable.laid_for l.memory)) → take l.p l.number-items ≡ take l.p (table_read (g.M.Readable.held l.memory) (dims (g.M.Readable.laid_for l.memory)))

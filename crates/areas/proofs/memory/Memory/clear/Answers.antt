@@ -14,9 +14,6 @@ pub slice_bounds-fill-end : goal.slice_bounds-fill-end
 slice_bounds-fill-end c = omega (arith, area_within c.args.self.now.words.now (dims c.args.self.now.shape) c.args.area _ _ c.base-base.ensures.exact c.reach-reach.ensures (omega arith))
 
 pub returns-then-reach-gt0 : goal.returns-then-reach-gt0
-returns-then-reach-gt0 c = record {
-  reference = refl;
-  shape = refl;
-  words =
-      cleared_at c.args.self.now.words.now c.fill.new.self (dims c.args.self.now.shape) c.args.area c.base-base.result _ c.base-base.ensures.exact (omega (arith, c.reach-reach.ensures)) (omega (arith, area_within c.args.self.now.words.now (dims c.args.self.now.shape) c.args.area _ _ c.base-base.ensures.exact c.reach-reach.ensures (omega arith))) (c.fill.ensures.after (λ y h. h));
-}
+returns-then-reach-gt0 c =
+    let done = cleared_at c.args.self.now.words.now c.fill.new.self (dims c.args.self.now.shape) c.args.area c.base-base.result _ c.base-base.ensures.exact (omega (arith, c.reach-reach.ensures)) (omega (arith, area_within c.args.self.now.words.now (dims c.args.self.now.shape) c.args.area _ _ c.base-base.ensures.exact c.reach-reach.ensures (omega arith))) (c.fill.ensures.after (λ y h. h)) in
+    record { reference = refl; shape = refl; long = done.long; words = done }

@@ -20,12 +20,9 @@ pub slice_bounds-copy_front-end : goal.slice_bounds-copy_front-end
 slice_bounds-copy_front-end c = omega (arith, area_within c.args.self.now.words.now (dims c.args.self.now.shape) c.args.area _ _ c.base-base.ensures.exact c.reach-reach.ensures (omega arith))
 
 pub returns-then-at-reach : goal.returns-then-at-reach
-returns-then-at-reach c = record {
-  reference = refl;
-  shape = refl;
-  words =
-      copied_at c.args.self.now.words.now c.copy_front.new.part (dims c.args.self.now.shape) c.args.area c.base-base.result c.args.at _ c.args.word.now c.base-base.ensures.exact (omega (arith, c.reach-reach.ensures)) (omega (arith, area_within c.args.self.now.words.now (dims c.args.self.now.shape) c.args.area _ _ c.base-base.ensures.exact c.reach-reach.ensures (omega arith))) c.copy_front.ensures;
-}
+returns-then-at-reach c =
+    let done = copied_at c.args.self.now.words.now c.copy_front.new.part (dims c.args.self.now.shape) c.args.area c.base-base.result c.args.at _ c.args.word.now c.base-base.ensures.exact (omega (arith, c.reach-reach.ensures)) (omega (arith, area_within c.args.self.now.words.now (dims c.args.self.now.shape) c.args.area _ _ c.base-base.ensures.exact c.reach-reach.ensures (omega arith))) c.copy_front.ensures in
+    record { reference = refl; shape = refl; long = done.long; words = done }
 
 pub returns-else-at-reach : goal.returns-else-at-reach
 returns-else-at-reach c = writes_none c.args.self.now
